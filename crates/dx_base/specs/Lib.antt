@@ -1,0 +1,5 @@
+pub mod Hresult
+pub mod SeqLends
+pub mod Roomy
+pub mod Faults
+pub mod Lists

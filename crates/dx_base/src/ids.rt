@@ -1,0 +1,25 @@
+//! Names of objects: each is the place of the object among those of its kind, counted from 0.
+
+/// A command queue.
+#[derive(Clone, Copy, Debug, PartialEq, Eq)]
+pub struct QueueId(pub u32);
+
+/// A fence.
+#[derive(Clone, Copy, Debug, PartialEq, Eq)]
+pub struct FenceId(pub u32);
+
+/// A buffer.
+#[derive(Clone, Copy, Debug, PartialEq, Eq)]
+pub struct ResourceId(pub u32);
+
+/// A command allocator.
+#[derive(Clone, Copy, Debug, PartialEq, Eq)]
+pub struct AllocatorId(pub u32);
+
+/// A command list.
+#[derive(Clone, Copy, Debug, PartialEq, Eq)]
+pub struct ListId(pub u32);
+
+/// A thread of the application.
+#[derive(Clone, Copy, Debug, PartialEq, Eq)]
+pub struct ThreadId(pub u32);
