@@ -1,0 +1,33 @@
+-- The updates of a fence.
+use Rattle.std.specs.Prelude.{ℕ, ◌≡◌, ◌==◌, ◌+◌, nat_le, List, [], ◌∷◌, ◌++◌, length, drop, slice_get, Option, Some, None, Bool, true, false, if◌then◌else◌}
+use Rattle.std.specs.List.{list_any}
+use Rattle.d3d_machine.specs.declared.world.World.{World}
+use Rattle.d3d_machine.specs.declared.events.Operation.{Operation}
+use Rattle.d3d_machine.specs.declared.events.Operation.TheVariants as operation
+use Rattle.d3d_machine.specs.declared.events.Event.{Event}
+use Rattle.d3d_machine.specs.declared.events.Event.TheVariants as event
+use Rattle.d3d_machine.specs.State.{Desk, State, first_state, value_of}
+use Rattle.d3d_machine.specs.Effects.{after, head_of}
+
+abbrev pub update_of_operation : ℕ → Option Operation → List ℕ
+update_of_operation f None = []
+update_of_operation f (Some (operation.Execute commands)) = []
+update_of_operation f (Some (operation.Signal g v)) = if (g.0 == f) then v ∷ [] else []
+
+-- the value that an event gives a fence, where it gives one: a completed signal does
+abbrev pub update_of : Desk → ℕ → Event → List ℕ
+update_of d f (event.Call t c r) = []
+update_of d f (event.Awake t) = []
+update_of d f (event.Queue q) = update_of_operation f (head_of d q.0)
+
+abbrev pub updates_from : World → State → ℕ → List Event → List ℕ
+updates_from w s f [] = []
+updates_from w s f (e ∷ h) = update_of s.desk f e ++ updates_from w (after w s e) f h
+
+-- the applied updates of a fence: its starting value, then its completed signals in order of the history
+abbrev pub applied_updates : World → List Event → ℕ → List ℕ
+applied_updates w h f = value_of (first_state w).desk f ∷ updates_from w (first_state w) f h
+
+-- a wait is met: an update that was current at its call, or a later one, is at least its value
+abbrev pub is_met : List ℕ → ℕ → ℕ → Bool
+is_met applied since v = list_any (λ u. nat_le v u) (drop since applied)

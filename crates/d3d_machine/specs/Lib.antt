@@ -1,0 +1,6 @@
+pub mod World
+pub mod State
+pub mod Replies
+pub mod Effects
+pub mod Play
+pub mod Fences

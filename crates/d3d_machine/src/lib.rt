@@ -1,0 +1,11 @@
+//! The Direct3D machine: a world's objects and scripts, calls with their replies, and command lists.
+//! What a run of calls means stands in specs/.
+#![tactic(auto)]
+
+mod calls;
+mod events;
+mod world;
+
+pub use calls::{Call, Record, Reply};
+pub use events::{Command, Event, ListState, Listed, Operation};
+pub use world::{Resource, World};
