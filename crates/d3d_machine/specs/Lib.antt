@@ -4,3 +4,4 @@ pub mod Replies
 pub mod Effects
 pub mod Play
 pub mod Fences
+pub mod Operations
