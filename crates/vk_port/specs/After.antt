@@ -1,0 +1,103 @@
+-- The state of the Vulkan machine after a step, a submission, and an access of the host.
+use Rattle.std.specs.Prelude.{ℕ, zero, suc, ◌+◌, ◌-◌, ◌==◌, Bool, true, false, List, [], ◌∷◌, ◌++◌, length, take, drop, replicate, slice_get, slice_set, slice_index_or, Option, Some, None, if◌then◌else◌}
+use Rattle.dx_base.specs.Lists.{changed_at}
+use Rattle.vk_port.specs.declared.commands.Batch.{Batch}
+use Rattle.vk_port.specs.declared.commands.VkCommand.{VkCommand}
+use Rattle.vk_port.specs.declared.commands.VkCommand.TheVariants.{Barrier, Copy}
+use Rattle.vk_port.specs.declared.lanes.Lane.{Lane}
+use Rattle.vk_port.specs.declared.lanes.Running.{Running}
+use Rattle.vk_port.specs.declared.steps.Stepped.{Stepped}
+use Rattle.vk_port.specs.declared.steps.Stepped.TheVariants.{Passed, Ran, Bumped, Free}
+use Rattle.vk_port.specs.VkState.{VkState, lane_of, words_of}
+
+-- words with others written into them from one place on; those that would lie past the end are left out
+abbrev pub put : ℕ → List ℕ → List ℕ → List ℕ
+put first new words = take (length words) (take first words ++ (new ++ drop (first + length new) words))
+
+-- some of the words from one place on, as far as there are
+abbrev pub range_of : ℕ → ℕ → List ℕ → List ℕ
+range_of first count words = take count (drop first words)
+
+-- the words of all buffers after a command: a copy (Vulkan 1.3, 19.2) writes those of its words that lie inside
+-- both buffers, a barrier none
+abbrev pub after_command : VkCommand → List (List ℕ) → List (List ℕ)
+after_command (Barrier from made to seen) words = words
+after_command (Copy to to_first from from_first count) words =
+    changed_at (put to_first (range_of from_first count (slice_index_or words from []))) to words
+
+-- the words of all buffers after a command that may be missing
+abbrev pub after_found : Option VkCommand → List (List ℕ) → List (List ℕ)
+after_found None words = words
+after_found (Some command) words = after_command command words
+
+-- the place of the first batch of a number; their count, where there is none
+abbrev pub place_of : ℕ → List Running → ℕ
+place_of n [] = 0
+place_of n (r ∷ rs) = if r.batch.number == n then 0 else suc (place_of n rs)
+
+-- the commands of a batch that may be missing
+abbrev pub found_commands : Option Running → List VkCommand
+found_commands None = []
+found_commands (Some running) = running.batch.commands
+
+-- command k, counted from 1, of the batch of number n
+abbrev pub command_at : ℕ → ℕ → List Running → Option VkCommand
+command_at n k batches = slice_get (found_commands (slice_get batches (place_of n batches))) (k - 1)
+
+-- a batch with its command k, counted from 1, done
+abbrev pub with_done : ℕ → Running → Running
+with_done k running = record running { done = slice_set running.done (k - 1) true }
+
+-- a lane with command k of the batch of number n done
+abbrev pub lane_after_run : ℕ → ℕ → Lane → Lane
+lane_after_run n k lane = record lane { batches = changed_at (with_done k) (place_of n lane.batches) lane.batches }
+
+-- a lane of which one more batch has passed
+abbrev pub lane_after_pass : Lane → Lane
+lane_after_pass lane = record lane { passed = lane.passed + 1 }
+
+-- a lane whose first batch has ended
+abbrev pub lane_after_bump : Lane → Lane
+lane_after_bump lane = record lane { batches = drop 1 lane.batches; passed = lane.passed - 1 }
+
+-- what the first batch of a lane sets at its end
+abbrev pub sets_of : Lane → List (ℕ × ℕ)
+sets_of lane = elim (slice_get lane.batches 0) [ None ↦ [] | Some first ↦ first.batch.sets ]
+
+-- the timelines after some were set (Vulkan 1.3, 7.4.1: signaling a timeline semaphore)
+abbrev pub after_sets : List (ℕ × ℕ) → List ℕ → List ℕ
+after_sets [] timelines = timelines
+after_sets (pair ∷ pairs) timelines = after_sets pairs (slice_set timelines pair.0 pair.1)
+
+-- the state after a step
+abbrev pub after_step : VkState → Stepped → VkState
+after_step v (Passed q n) = record v { lanes = changed_at lane_after_pass q v.lanes }
+after_step v (Ran q n k) = record v {
+  words = after_found (command_at n k (lane_of v q).batches) v.words;
+  lanes = changed_at (lane_after_run n k) q v.lanes;
+}
+after_step v (Bumped q n) = record v {
+  timelines = after_sets (sets_of (lane_of v q)) v.timelines;
+  lanes = changed_at lane_after_bump q v.lanes;
+}
+after_step v Free = v
+
+-- a batch of which no command is done
+abbrev pub started : Batch → Running
+started b = record { batch = b; done = replicate (length b.commands) false }
+
+-- a lane with one more batch
+abbrev pub lane_after_submit : Batch → Lane → Lane
+lane_after_submit b lane = record lane { batches = lane.batches ++ started b ∷ [] }
+
+-- the state after a submission (Vulkan 1.3, 6.5)
+abbrev pub after_submit : VkState → Batch → VkState
+after_submit v b = record v { journal = v.journal ++ b ∷ []; lanes = changed_at (lane_after_submit b) b.queue v.lanes }
+
+-- the state after the host wrote words of a buffer from one place on
+abbrev pub after_host_write : VkState → ℕ → ℕ → List ℕ → VkState
+after_host_write v buffer first new = record v { words = changed_at (put first new) buffer v.words }
+
+-- the state after the host read words of a buffer from one place on
+abbrev pub after_host_read : VkState → ℕ → ℕ → ℕ → VkState
+after_host_read v buffer first count = v

@@ -1,0 +1,12 @@
+pub mod Names
+pub mod Stages
+pub mod VkState
+pub mod Orders
+pub mod Enabled
+pub mod After
+pub mod Left
+pub mod Journal
+pub mod VkSteps
+pub mod Valid
+pub mod Causes
+pub mod Offers

@@ -1,0 +1,46 @@
+-- The state of the Vulkan machine.
+use Rattle.std.specs.Prelude.{ℕ, List, [], map, replicate, length, slice_index_or}
+use Rattle.vk_port.specs.declared.commands.Batch.{Batch}
+use Rattle.vk_port.specs.declared.lanes.Lane.{Lane}
+use Rattle.vk_port.specs.declared.plan.DevicePlan.{DevicePlan}
+use Rattle.vk_port.specs.declared.plan.PlanBuffer.{PlanBuffer}
+
+-- what the Vulkan machine knows
+pub record VkState : Type 0 where
+  -- the words of each buffer
+  pub words : List (List ℕ)
+  -- the value of each timeline semaphore
+  pub timelines : List ℕ
+  -- all batches that were submitted, oldest first
+  pub journal : List Batch
+  -- the unfinished batches of each queue
+  pub lanes : List Lane
+
+-- the lane of a queue with no unfinished batch
+abbrev pub no_lane : Lane
+no_lane = record { batches = []; passed = 0 }
+
+-- the words of a buffer of a plan at first
+abbrev pub first_words : PlanBuffer → List ℕ
+first_words buffer = replicate buffer.words 0
+
+-- the state in which a device of a plan begins: zeros everywhere, and nothing submitted
+abbrev pub first_state : DevicePlan → VkState
+first_state plan = record {
+  words = map first_words plan.buffers;
+  timelines = replicate plan.timelines 0;
+  journal = [];
+  lanes = replicate plan.queues no_lane;
+}
+
+-- the words of a buffer; none for a buffer that is not there
+abbrev pub words_of : VkState → ℕ → List ℕ
+words_of v buffer = slice_index_or v.words buffer []
+
+-- the value of a timeline; 0 for one that is not there
+abbrev pub counter_of : VkState → ℕ → ℕ
+counter_of v timeline = slice_index_or v.timelines timeline 0
+
+-- the lane of a queue; an empty one for a queue that is not there
+abbrev pub lane_of : VkState → ℕ → Lane
+lane_of v q = slice_index_or v.lanes q no_lane

@@ -1,0 +1,20 @@
+//! The port to a Vulkan device: its types, its contract, and a plain device that meets it.
+#![tactic(auto)]
+
+mod commands;
+mod device;
+mod faults;
+mod flags;
+mod lanes;
+mod plan;
+mod sets;
+mod steps;
+
+pub use commands::{Batch, VkCommand};
+pub use device::VkDevice;
+pub use faults::DeviceFault;
+pub use flags::{Accesses, Stages};
+pub use lanes::{Lane, Running};
+pub use plan::{DevicePlan, PlanBuffer};
+pub use sets::{NoSets, Sets};
+pub use steps::Stepped;
