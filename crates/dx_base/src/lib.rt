@@ -2,6 +2,7 @@
 //! contracts see as the list of their items.
 #![tactic(auto)]
 
+mod fifo;
 mod hresult;
 mod ids;
 mod kinds;
@@ -10,6 +11,7 @@ mod room;
 mod seq;
 mod steps;
 
+pub use fifo::Fifo;
 pub use hresult::{Hresult, Memory};
 pub use ids::{AllocatorId, FenceId, ListId, QueueId, ResourceId, ThreadId};
 pub use kinds::{Home, ListType};

@@ -1,0 +1,77 @@
+-- The steps of the system, and what each does to the history and to the device.
+use Rattle.std.specs.Prelude.{ℕ, zero, suc, ◌≡◌, ◌≤◌, ◌<◌, ◌+◌, ◌-◌, ◌==◌, nat_lt, List, [], ◌∷◌, ◌++◌, length, slice_get, Option, Some, None, Bool, true, false, if◌then◌else◌}
+use Rattle.dx_base.specs.declared.steps.Step.{Step}
+use Rattle.dx_base.specs.declared.steps.Step.TheVariants as step
+use Rattle.d3d_machine.specs.declared.world.World.{World}
+use Rattle.d3d_machine.specs.declared.calls.Call.{Call}
+use Rattle.d3d_machine.specs.declared.events.Event.{Event}
+use Rattle.d3d_machine.specs.declared.events.Event.TheVariants as event
+use Rattle.d3d_machine.specs.State.{Waiting, Place, Desk, State, place_of, script_of, next_call}
+use Rattle.d3d_machine.specs.Replies.{reply_of}
+use Rattle.d3d_machine.specs.Effects.{memory_after}
+use Rattle.d3d_machine.specs.Play.{state_after}
+use Rattle.d3d_machine.specs.Operations.{operations}
+use Rattle.vk_port.specs.declared.steps.Stepped.{Stepped}
+use Rattle.vk_port.specs.declared.steps.Stepped.TheVariants as stepped
+use Rattle.vk_port.specs.declared.commands.Batch.{Batch}
+use Rattle.vk_port.specs.Journal.{next_number}
+use Rattle.vk_port.specs.Offers.{steps_offered}
+use Rattle.vk_port.specs.VkState.{VkState}
+
+-- a thread's step is enabled where it does not wait and its script has a next call, or its wait is met
+abbrev pub is_ready_place : List Call → Place → Bool
+is_ready_place script p = elim p.waits [ None ↦ nat_lt p.made (length script) | Some x ↦ x.marked ]
+
+abbrev pub is_ready_thread : World → List Event → ℕ → Bool
+is_ready_thread w h t = is_ready_place (script_of w t) (place_of (state_after w h).desk t)
+
+-- how many operations of a queue are submitted
+abbrev pub submitted_of : VkState → ℕ → ℕ
+submitted_of v q = next_number q v.journal - 1
+
+-- a worker's step is enabled where its queue has an operation that is not submitted
+abbrev pub is_ready_worker : World → List Event → VkState → ℕ → Bool
+is_ready_worker w h v q = nat_lt (submitted_of v q) (length (operations w h q))
+
+-- the steps of those from number n on, so many of them, that pass a test
+abbrev pub steps_where : (ℕ → Bool) → (ℕ → Step) → ℕ → ℕ → List Step
+steps_where test make n zero = []
+steps_where test make n (suc k) = (if test n then make n ∷ [] else []) ++ steps_where test make (n + 1) k
+
+abbrev pub always : ℕ → Bool
+always n = true
+
+-- all enabled steps in order: threads, workers, then the device's steps
+abbrev pub enabled_of : World → List Event → VkState → ℕ → List Step
+enabled_of w h v free =
+    steps_where (is_ready_thread w h) (λ t. step.Thread t) 0 (length w.scripts)
+    ++ (steps_where (is_ready_worker w h v) (λ q. step.Worker q) 0 (length w.queues)
+    ++ steps_where always (λ k. step.Device k) 0 (steps_offered v free))
+
+-- the Direct3D state of a history, with the words that the device has
+abbrev pub seen_state : World → List Event → VkState → State
+seen_state w h v = record { desk = (state_after w h).desk; memory = v.words }
+
+-- the event of a call that a thread has next; a read gives the words that the device has
+abbrev pub call_event : World → State → ℕ → Option Call → Event
+call_event w s t None = event.Awake (record { 0 = t })
+call_event w s t (Some c) = event.Call (record { 0 = t }) c (reply_of w s c)
+
+abbrev pub place_event : World → State → ℕ → Option Waiting → Event
+place_event w s t None = call_event w s t (next_call w s.desk t)
+place_event w s t (Some x) = event.Awake (record { 0 = t })
+
+-- the event of a thread's step
+abbrev pub thread_event : World → List Event → VkState → ℕ → Event
+thread_event w h v t = place_event w (seen_state w h v) t (place_of (state_after w h).desk t).waits
+
+-- the device after an event of a thread: a host write that is not refused stores its words
+abbrev pub after_event : World → List Event → VkState → Event → VkState
+after_event w h v e = record v { words = memory_after w (seen_state w h v) e }
+
+-- the event of a device's step: the end of an operation's batch completes the operation
+abbrev pub step_events : Stepped → List Event
+step_events (stepped.Passed q n) = []
+step_events (stepped.Ran q n k) = []
+step_events (stepped.Bumped q n) = if n == 0 then [] else event.Queue (record { 0 = q }) ∷ []
+step_events stepped.Free = []
