@@ -1,3 +1,4 @@
 pub mod Lowering
 pub mod Stands
 pub mod Steps
+pub mod Consistent

@@ -3,4 +3,4 @@
 
 mod parts;
 
-pub use parts::{Armed, Held, Parts, Seat, Signalled};
+pub use parts::{Armed, Held, Seat, Signalled};

@@ -1,8 +1,8 @@
 //! What the system keeps beside the device: command lists, places of threads, updates of fences, and
 //! operations that are not submitted.
 
-use d3d_machine::{Lists, Operation};
-use dx_base::{FenceId, Fifo, Room, Seq};
+use d3d_machine::Operation;
+use dx_base::{FenceId, Fifo};
 
 /// A wait of a thread, with the place, among the fence's updates, of the one that was current at its call.
 #[derive(Clone, Copy, Debug, PartialEq, Eq)]
@@ -35,13 +35,4 @@ pub struct Held {
     pub submitted: u64,
     pub last_signal: u64,
     pub signals: Fifo<Signalled>,
-}
-
-/// All parts. Each fence has the list of its applied updates, its starting value first.
-#[derive(Debug, Drop)]
-pub struct Parts {
-    pub lists: Lists,
-    pub seats: Seq<Seat>,
-    pub fences: Seq<Room<u64>>,
-    pub held: Seq<Held>,
 }
