@@ -1,0 +1,41 @@
+-- A list with the item at a place changed: by writing there, its length, and its items.
+use Rattle.std.proofs.Common.{ℕ, zero, suc, ◌≡◌, ◌≢◌, ◌<◌, ◌+◌, refl, sym, ap, List, [], ◌∷◌, ◌++◌, length, get_or, slice_set, slice_get, Option, Some, None, option_map, arith}
+use Rattle.dx_base.specs.Lists.{changed_at}
+
+module _ {A : Type 0} where
+  -- writing at a place what a function makes of the item there
+  pub set_is_changed : (f : A → A) (xs : List A) (i : ℕ) (x : A) → slice_get xs i ≡ Some x → slice_set xs i (f x) ≡ changed_at f i xs
+  set_is_changed f [] i y h = refl
+  set_is_changed f (x ∷ xs) zero y h = cc
+  set_is_changed f (x ∷ xs) (suc i) y h = ap (λ t. x ∷ t) (set_is_changed f xs i y h)
+
+  -- the same for an item that was lent to be written
+  pub write_is_changed : (f : A → A) (xs : List A) (i : ℕ) (x y : A) → i < length xs → x ≡ get_or xs i x → y ≡ f x → slice_set xs i y ≡ changed_at f i xs
+  write_is_changed f [] i x y l h e = refl
+  write_is_changed f (z ∷ xs) zero x y l h e = cc
+  write_is_changed f (z ∷ xs) (suc i) x y l h e = ap (λ t. z ∷ t) (write_is_changed f xs i x y (omega arith) h e)
+
+  -- writing the item that stands there changes nothing
+  pub write_is_same : (xs : List A) (i : ℕ) (x y : A) → i < length xs → x ≡ get_or xs i x → y ≡ x → slice_set xs i y ≡ xs
+  write_is_same [] i x y l h e = refl
+  write_is_same (z ∷ xs) zero x y l h e = cc
+  write_is_same (z ∷ xs) (suc i) x y l h e = ap (λ t. z ∷ t) (write_is_same xs i x y (omega arith) h e)
+
+  pub length_changed : (f : A → A) (xs : List A) (i : ℕ) → length (changed_at f i xs) ≡ length xs
+  length_changed f [] i = refl
+  length_changed f (x ∷ xs) zero = refl
+  length_changed f (x ∷ xs) (suc i) = ap suc (length_changed f xs i)
+
+  -- the item at the place that was changed
+  pub get_changed : (f : A → A) (xs : List A) (i : ℕ) → slice_get (changed_at f i xs) i ≡ option_map f (slice_get xs i)
+  get_changed f [] i = refl
+  get_changed f (x ∷ xs) zero = refl
+  get_changed f (x ∷ xs) (suc i) = get_changed f xs i
+
+  -- the item at another place
+  pub get_changed_other : (f : A → A) (xs : List A) (i j : ℕ) → i ≢ j → slice_get (changed_at f i xs) j ≡ slice_get xs j
+  get_changed_other f [] i j n = refl
+  get_changed_other f (x ∷ xs) zero zero n = absurd (n refl)
+  get_changed_other f (x ∷ xs) zero (suc j) n = refl
+  get_changed_other f (x ∷ xs) (suc i) zero n = refl
+  get_changed_other f (x ∷ xs) (suc i) (suc j) n = get_changed_other f xs i j (λ e. n (ap suc e))
