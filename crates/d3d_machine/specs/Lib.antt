@@ -4,3 +4,5 @@ pub mod Replies
 pub mod Effects
 pub mod Play
 pub mod Fences
+pub mod Recorders
+pub mod Lists
