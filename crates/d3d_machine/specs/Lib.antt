@@ -6,3 +6,4 @@ pub mod Play
 pub mod Fences
 pub mod Recorders
 pub mod Lists
+pub mod Checks

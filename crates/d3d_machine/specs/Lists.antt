@@ -1,15 +1,17 @@
 -- The calls on lists, said of the lists alone: why each is refused, and the lists after it.
-use Rattle.std.specs.Prelude.{ℕ, ◌||◌, not, List, [], ◌∷◌, slice_get, Option, Some, None, Bool, true, false}
+use Rattle.std.specs.Prelude.{ℕ, ◌||◌, not, List, [], ◌∷◌, slice_get, map, Option, Some, None, Result, Ok, Err, Bool, true, false}
 use Rattle.std.specs.List.{list_all, list_any}
 use Rattle.dx_base.specs.Lists.{changed_at}
+use Rattle.dx_base.specs.declared.ids.ListId.{ListId}
 use Rattle.dx_base.specs.declared.hresult.Hresult.{Hresult}
 use Rattle.dx_base.specs.declared.hresult.Hresult.TheVariants.{InvalidArg, Fail}
 use Rattle.d3d_machine.specs.declared.world.World.{World}
 use Rattle.d3d_machine.specs.declared.calls.Record.{Record}
 use Rattle.d3d_machine.specs.declared.events.Listed.{Listed}
-use Rattle.d3d_machine.specs.State.{list_of, is_recording}
+use Rattle.d3d_machine.specs.declared.events.Command.{Command}
+use Rattle.d3d_machine.specs.State.{list_of, is_recording, is_closed_state}
 use Rattle.d3d_machine.specs.Replies.{refuse_if, records_from, same_types, is_fit}
-use Rattle.d3d_machine.specs.Effects.{recorded, closed, failed, begun}
+use Rattle.d3d_machine.specs.Effects.{recorded, closed, failed, begun, gathered}
 
 -- the lists after a call that is not refused, or after one that is
 abbrev pub lists_or : Option Hresult → List Listed → List Listed → List Listed
@@ -56,5 +58,22 @@ abbrev pub lists_after_reset : World → List Listed → ℕ → ℕ → List Li
 lists_after_reset w lists l a = lists_or (reset_refusal w lists l a) (changed_at (λ _. begun a) l lists) lists
 
 -- why an execution of lists on a queue is refused
-abbrev pub execute_refusal : World → List Listed → ℕ → List ℕ → Option Hresult
-execute_refusal w lists q ls = refuse_if (not (list_all (λ l. is_fit w lists q l) ls)) Fail None
+abbrev pub execute_refusal : World → List Listed → ℕ → List ListId → Option Hresult
+execute_refusal w lists q ls = refuse_if (not (list_all (λ l. is_fit w lists q l.0) ls)) Fail None
+
+-- the error of a refused call, or what the call gives
+abbrev pub answer_or : {A : Type 0} → Option Hresult → A → Result A Hresult
+answer_or None x = Ok x
+answer_or (Some e) x = Err e
+
+-- the commands that an execution of lists gives a queue
+abbrev pub commands_of : List Listed → List ListId → List Command
+commands_of lists ls = gathered lists (map (λ l. l.0) ls)
+
+abbrev pub commands_if : Bool → List Command → Option (List Command)
+commands_if true commands = Some commands
+commands_if false commands = None
+
+-- the commands of a closed list
+abbrev pub closed_commands : Listed → Option (List Command)
+closed_commands x = commands_if (is_closed_state x.state) x.commands

@@ -1,9 +1,11 @@
 //! Tests of the arguments of calls.
 
 ghost use Rattle.std.specs.Prelude.{◌≡◌, ◌+◌, ◌*◌, ◌==◌, ◌&&◌, ◌<◌, ◌^◌, not, nat_lt, nat_le, is_some, None, Some};
+ghost use Rattle.std.specs.Option.{option_copied};
 ghost use Rattle.dx_base.specs.declared.hresult.Hresult.TheVariants.{InvalidArg};
-ghost use Rattle.d3d_machine.specs.World.{resource_of, words_in as size_of, is_upload, is_readback, is_inside as inside, is_whole, overlaps as overlap};
-ghost use Rattle.d3d_machine.specs.Replies.{refuse_if, same_type, is_copy as copy_is_good, argument_error as error_of_argument};
+ghost use Rattle.d3d_machine.specs.World.{resource_of, words_in as size_of, is_upload as host_writes, is_readback as host_reads, is_inside as inside, is_whole, overlaps as overlap};
+ghost use Rattle.d3d_machine.specs.Replies.{refuse_if, same_type, same_types, is_copy as copy_is_good, argument_error as error_of_argument};
+ghost use Rattle.d3d_machine.specs.Checks.{write_refusal as refusal_of_write, read_refusal as refusal_of_read};
 
 use crate::calls::Record;
 use crate::world::{Resource, World};
@@ -22,11 +24,23 @@ impl World {
 }
 
 /// Whether two types are one.
-pub(crate) fn is_same_type(a: ListType, b: ListType) -> bool
+fn is_same_type(a: ListType, b: ListType) -> bool
     ensures { result ≡ same_type a b }
 {
     match (a, b) {
         (ListType::Direct, ListType::Direct) => true,
+    }
+}
+
+/// Whether both types are there, and are one.
+pub(crate) fn are_same_types(a: Option<&ListType>, b: Option<&ListType>) -> bool
+    ensures { result ≡ same_types (option_copied a.entry) (option_copied b.entry) }
+{
+    match (a, b) {
+        (Some(a), Some(b)) => is_same_type(*a, *b),
+        (Some(_), None) => false,
+        (None, Some(_)) => false,
+        (None, None) => false,
     }
 }
 
@@ -82,4 +96,52 @@ pub fn argument_error(world: &World, what: Record) -> Option<Hresult>
             if is_copy(world, to, to_offset, from, from_offset, bytes) { None } else { Some(Hresult::InvalidArg) }
         }
     }
+}
+
+/// Whether the buffer lives, and the host writes it.
+fn is_upload(world: &World, buffer: ResourceId) -> bool
+    ensures { result ≡ host_writes world.now buffer.0 }
+{
+    match world.resource(buffer) {
+        Some(Resource::Buffer { home: Home::Upload, words: _ }) => true,
+        Some(Resource::Buffer { home: Home::Readback, words: _ }) => false,
+        None => false,
+    }
+}
+
+/// Whether the buffer lives, and the host reads it.
+fn is_readback(world: &World, buffer: ResourceId) -> bool
+    ensures { result ≡ host_reads world.now buffer.0 }
+{
+    match world.resource(buffer) {
+        Some(Resource::Buffer { home: Home::Upload, words: _ }) => false,
+        Some(Resource::Buffer { home: Home::Readback, words: _ }) => true,
+        None => false,
+    }
+}
+
+/// Whether so many words from that byte on are whole words inside a buffer of that many words.
+fn are_inside(size: u32, offset: u64, words: usize) -> bool
+    ensures { result ≡ inside size offset (4 * words) }
+{
+    match (words as u64).checked_mul(4) {
+        Some(bytes) => is_inside(size, offset, bytes),
+        None => false,
+    }
+}
+
+/// Why a host write of so many words is refused, where it is: the buffer is no upload buffer, or the
+/// words are not whole words inside it. The offset is in bytes.
+pub fn write_refusal(world: &World, buffer: ResourceId, offset: u64, words: usize) -> Option<Hresult>
+    ensures { result ≡ refusal_of_write world.now buffer.0 offset words }
+{
+    if is_upload(world, buffer) && are_inside(words_in(world, buffer), offset, words) { None } else { Some(Hresult::InvalidArg) }
+}
+
+/// Why a host read is refused, where it is: the buffer is no readback buffer, or the range is empty, or
+/// not one of whole words inside it. The offset and the size are in bytes.
+pub fn read_refusal(world: &World, buffer: ResourceId, offset: u64, bytes: u64) -> Option<Hresult>
+    ensures { result ≡ refusal_of_read world.now buffer.0 offset bytes }
+{
+    if is_readback(world, buffer) && bytes != 0 && is_inside(words_in(world, buffer), offset, bytes) { None } else { Some(Hresult::InvalidArg) }
 }

@@ -10,6 +10,7 @@ mod lists;
 mod world;
 
 pub use calls::{Call, Record, Reply};
+pub use checks::{argument_error, read_refusal, write_refusal};
 pub use events::{Command, Event, ListState, Listed, Operation};
 pub use lists::Lists;
 pub use world::{Resource, World};

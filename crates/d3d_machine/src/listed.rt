@@ -1,12 +1,13 @@
 //! What calls do to one command list.
 
 ghost use Rattle.std.specs.Prelude.{◌≡◌, IfOk, OnOk, OnErr};
+ghost use Rattle.std.specs.Option.{option_copied};
 ghost use Rattle.std.specs.Result.{result_err};
-ghost use Rattle.d3d_machine.specs.State.{declared_list, is_recording as takes_commands};
+ghost use Rattle.d3d_machine.specs.State.{declared_list, is_recording as takes_commands, is_closed_state};
 ghost use Rattle.d3d_machine.specs.Recorders.{recorder_of};
 ghost use Rattle.d3d_machine.specs.Replies.{records_from as from_allocator, record_error as error_of_record};
 ghost use Rattle.d3d_machine.specs.Effects.{recorded, begun};
-ghost use Rattle.d3d_machine.specs.Lists.{ended};
+ghost use Rattle.d3d_machine.specs.Lists.{ended, closed_commands};
 
 use crate::calls::Record;
 use crate::checks::argument_error;
@@ -37,6 +38,24 @@ impl Listed {
             ListState::Closed => false,
             ListState::Failed => false,
         }
+    }
+
+    /// Whether the list can be executed.
+    pub fn is_closed(&self) -> bool
+        ensures { result ≡ is_closed_state self.now.state }
+    {
+        match self.state {
+            ListState::Recording => false,
+            ListState::Closed => true,
+            ListState::Failed => false,
+        }
+    }
+
+    /// The commands of a closed list.
+    pub fn closed(&self) -> Option<&[Command]>
+        ensures { option_copied result ≡ closed_commands self.now }
+    {
+        if self.is_closed() { Some(self.commands.as_slice()) } else { None }
     }
 
     /// The allocator that the list is recording from.

@@ -1,21 +1,22 @@
 //! The command lists of a run, and the calls on them.
 
-ghost use Rattle.std.specs.Prelude.{◌≡◌, ◌<◌, ◌==◌, ◌-◌, map, length, slice_get, not, Some, None, IfOk, OnOk, OnErr};
-ghost use Rattle.std.specs.List.{list_any};
+ghost use Rattle.std.specs.Prelude.{◌≡◌, ◌<◌, ◌==◌, ◌-◌, ◌++◌, map, length, slice_get, not, Some, None, IfOk, OnOk, OnErr};
+ghost use Rattle.std.specs.List.{list_all, list_any};
+ghost use Rattle.std.specs.Option.{option_copied};
 ghost use Rattle.std.specs.Result.{result_err};
 ghost use Rattle.dx_base.specs.Lists.{changed_at};
 ghost use Rattle.d3d_machine.specs.declared.calls.Reply.TheVariants.{Done as done};
-ghost use Rattle.d3d_machine.specs.State.{declared_list, list_of, is_recording};
-ghost use Rattle.d3d_machine.specs.Replies.{records_from, reply_or, same_types};
+ghost use Rattle.d3d_machine.specs.State.{declared_list, list_of, is_recording, is_closed_state};
+ghost use Rattle.d3d_machine.specs.Replies.{records_from, reply_or, same_types, is_fit as fits};
 ghost use Rattle.d3d_machine.specs.Effects.{recorded, begun};
 ghost use Rattle.d3d_machine.specs.Recorders.{recorder_of, released, taken};
-ghost use Rattle.d3d_machine.specs.Lists.{ended, record_refusal, lists_after_record, close_refusal, lists_after_close, reset_refusal, lists_after_reset};
+ghost use Rattle.d3d_machine.specs.Lists.{ended, record_refusal, lists_after_record, close_refusal, lists_after_close, reset_refusal, lists_after_reset, execute_refusal, answer_or, commands_of, closed_commands};
 
 use crate::calls::{Record, Reply};
-use crate::checks::is_same_type;
-use crate::events::{ListState, Listed};
+use crate::checks::are_same_types;
+use crate::events::{Command, ListState, Listed};
 use crate::world::World;
-use dx_base::{AllocatorId, Hresult, ListId, ListType, Memory, Seq};
+use dx_base::{AllocatorId, Hresult, ListId, ListType, Memory, QueueId, Seq};
 use std::alloc::Global;
 use std::marker::Model;
 
@@ -92,7 +93,7 @@ impl Lists {
         if takes_commands(&self.lists, at) {
             return Err(Hresult::Fail);
         }
-        if self.has_recorder(allocator) || !has_type_of(world, list, allocator) {
+        if self.has_recorder(allocator) || !has_allocators_type(world, list, allocator) {
             return Err(Hresult::InvalidArg);
         }
         take(&mut self.recorders, allocator);
@@ -117,6 +118,25 @@ impl Lists {
         ensures { result ≡ (list_of self.now list.0).state }
     {
         self.lists.at(list.0 as usize).state
+    }
+
+    /// The commands of a list; none where the list is not closed.
+    pub fn closed(&self, list: ListId) -> Option<&[Command]>
+        requires { list.0 < length self.now }
+        ensures { option_copied result ≡ closed_commands (list_of self.now list.0) }
+    {
+        self.lists.at(list.0 as usize).closed()
+    }
+
+    /// The commands that an execution of the lists gives a queue, in order. Fail: a list is not closed,
+    /// or has another type than the queue.
+    pub fn gather(&self, alloc: Global, world: &World, queue: QueueId, lists: &[ListId]) -> Result<Result<Seq<Command>, Hresult>, Memory>
+        ensures { IfOk result (λ answer. answer ≡ answer_or (execute_refusal world.now self.now queue.0 lists.now) (commands_of self.now lists.now)) }
+    {
+        if !are_fit(&self.lists, world, queue, lists) {
+            return Ok(Err(Hresult::Fail));
+        }
+        Ok(Ok(gather_all(alloc, &self.lists, lists)?))
     }
 }
 
@@ -228,11 +248,60 @@ fn take(recorders: &mut Seq<u32>, allocator: AllocatorId)
 }
 
 /// Whether a list has the type of an allocator.
-fn has_type_of(world: &World, list: ListId, allocator: AllocatorId) -> bool
+fn has_allocators_type(world: &World, list: ListId, allocator: AllocatorId) -> bool
     ensures { result ≡ same_types (slice_get world.now.lists list.0) (slice_get world.now.allocators allocator.0) }
 {
-    match (world.lists.get(list.0 as usize), world.allocators.get(allocator.0 as usize)) {
-        (Some(a), Some(b)) => is_same_type(*a, *b),
-        _ => false,
+    are_same_types(world.lists.get(list.0 as usize), world.allocators.get(allocator.0 as usize))
+}
+
+/// Whether a list has the type of a queue.
+fn has_queues_type(world: &World, list: ListId, queue: QueueId) -> bool
+    ensures { result ≡ same_types (slice_get world.now.lists list.0) (slice_get world.now.queues queue.0) }
+{
+    are_same_types(world.lists.get(list.0 as usize), world.queues.get(queue.0 as usize))
+}
+
+/// Whether the list of that id is closed, or there is none.
+fn is_closed(lists: &Seq<Listed>, list: ListId) -> bool
+    ensures { result ≡ is_closed_state (list_of lists.now list.0).state }
+{
+    match lists.get(list.0 as usize) {
+        Some(listed) => listed.is_closed(),
+        None => true,
     }
+}
+
+/// Whether a list can be executed on that queue.
+fn is_fit(lists: &Seq<Listed>, world: &World, queue: QueueId, list: ListId) -> bool
+    ensures { result ≡ fits world.now lists.now queue.0 list.0 }
+{
+    is_closed(lists, list) && has_queues_type(world, list, queue)
+}
+
+/// Whether each of the lists can be executed on that queue.
+fn are_fit(lists: &Seq<Listed>, world: &World, queue: QueueId, executed: &[ListId]) -> bool
+    ensures { result ≡ list_all (λ l. fits world.now lists.now queue.0 l.0) executed.now }
+{
+    executed.iter().all(|list| is_fit(lists, world, queue, *list))
+}
+
+/// Appends the commands of a list.
+fn gather_one(lists: &Seq<Listed>, list: ListId, commands: &mut Seq<Command>) -> Result<(), Memory>
+    ensures { OnOk result (commands.new ≡ commands.old ++ (list_of lists.now list.0).commands) }
+{
+    match lists.get(list.0 as usize) {
+        Some(listed) => commands.extend_from_slice(listed.commands.as_slice()),
+        None => Ok(()),
+    }
+}
+
+/// The commands of the lists, in order.
+fn gather_all(alloc: Global, lists: &Seq<Listed>, executed: &[ListId]) -> Result<Seq<Command>, Memory>
+    ensures { IfOk result (λ commands. commands ≡ commands_of lists.now executed.now) }
+{
+    let mut commands = Seq::new(alloc);
+    for list in executed {
+        gather_one(lists, *list, &mut commands)?;
+    }
+    Ok(commands)
 }
