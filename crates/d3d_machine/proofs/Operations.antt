@@ -10,7 +10,7 @@ use Rattle.std.specs.Option.{option_map}
 use Rattle.std.specs.Prelude.{if◌then◌else◌, ◌==◌, nat_lt}
 use Rattle.dx_base.specs.Lists.{changed_at}
 use Rattle.dx_base.specs.declared.hresult.Hresult.{Hresult}
-use Rattle.dx_base.proofs.Lists.{changed_at_same, changed_at_other}
+use Rattle.dx_base.proofs.Lists.{get_changed, get_changed_other}
 use Rattle.d3d_machine.specs.declared.world.World.{World}
 use Rattle.d3d_machine.specs.declared.calls.Call.{Call}
 use Rattle.d3d_machine.specs.declared.calls.Call.TheVariants as call
@@ -44,11 +44,11 @@ called_is d q os is = ap (λ (o : Option (List Operation)). elim o [ None ↦ []
 -- the item that a change at a place leaves there
 changed_here : (f : List Operation → List Operation) (p q : ℕ) (xs : List (List Operation)) (os : List Operation) → p ≡ q → slice_get xs q ≡ Some os →
     slice_get (changed_at f p xs) q ≡ Some (f os)
-changed_here f p q xs os same is = subst (λ k. slice_get (changed_at f k xs) q ≡ Some (f os)) (sym same) (changed_at_same f q xs ∙ ap (option_map f) is)
+changed_here f p q xs os same is = subst (λ k. slice_get (changed_at f k xs) q ≡ Some (f os)) (sym same) (get_changed f xs q ∙ ap (option_map f) is)
 
 changed_there : (f : List Operation → List Operation) (p q : ℕ) (xs : List (List Operation)) (os : List Operation) → p ≢ q → slice_get xs q ≡ Some os →
     slice_get (changed_at f p xs) q ≡ Some os
-changed_there f p q xs os other is = changed_at_other f p q xs (λ e. other (sym e)) ∙ is
+changed_there f p q xs os other is = get_changed_other f xs p q other ∙ is
 
 -- what a push leaves on a queue
 push_step : (d : Desk) (p q : ℕ) (o : Operation) (os : List Operation) → slice_get d.called q ≡ Some os →

@@ -5,3 +5,6 @@ pub mod Effects
 pub mod Play
 pub mod Fences
 pub mod Operations
+pub mod Recorders
+pub mod Lists
+pub mod Checks

@@ -3,9 +3,14 @@
 #![tactic(auto)]
 
 mod calls;
+mod checks;
 mod events;
+mod listed;
+mod lists;
 mod world;
 
 pub use calls::{Call, Record, Reply};
+pub use checks::{argument_error, read_refusal, write_refusal};
 pub use events::{Command, Event, ListState, Listed, Operation};
+pub use lists::Lists;
 pub use world::{Resource, World};

@@ -110,7 +110,25 @@ impl<T: Drop> Seq<T> {
     }
 }
 
+impl<T: Drop> Seq<T> {
+    /// Takes all items out; takes no memory.
+    pub fn clear(&mut self)
+        ensures { self.new ≡ [] }
+    {
+        self.items.clear();
+    }
+}
+
 impl<T: Copy> Seq<T> {
+    /// Appends a copy of the items. Refused for memory, the list stays.
+    pub fn extend_from_slice(&mut self, items: &[T]) -> Result<(), Memory>
+        ensures ok { OnOk result (self.new ≡ self.old ++ items.now) }
+        ensures same { OnErr result (self.new ≡ self.old) }
+    {
+        self.items.extend_from_slice(items)?;
+        Ok(())
+    }
+
     /// A copy of the items.
     pub fn from_slice(alloc: Global, items: &[T]) -> Result<Seq<T>, Memory>
         ensures { IfOk result (λ copy. copy ≡ items.now) }
