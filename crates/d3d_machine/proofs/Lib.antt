@@ -1,2 +1,3 @@
 pub mod Recorders
 pub mod Gathered
+pub mod Shape

@@ -7,3 +7,4 @@ pub mod Fences
 pub mod Recorders
 pub mod Lists
 pub mod Checks
+pub mod Shape
