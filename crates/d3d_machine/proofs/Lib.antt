@@ -1,3 +1,4 @@
 pub mod Operations
 pub mod Recorders
 pub mod Gathered
+pub mod Shape

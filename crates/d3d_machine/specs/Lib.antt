@@ -8,3 +8,4 @@ pub mod Operations
 pub mod Recorders
 pub mod Lists
 pub mod Checks
+pub mod Shape

@@ -1,6 +1,9 @@
 //! Calls and their replies.
 
-use dx_base::{AllocatorId, FenceId, Hresult, ListId, QueueId, ResourceId, Seq};
+ghost use Rattle.std.specs.Prelude.{◌≡◌, IfOk};
+
+use dx_base::{AllocatorId, FenceId, Hresult, ListId, Memory, QueueId, ResourceId, Seq};
+use std::alloc::Global;
 
 /// What a recording call records.
 #[derive(Clone, Copy, Debug, PartialEq, Eq)]
@@ -62,6 +65,24 @@ pub enum Call {
     },
 }
 
+impl Call {
+    /// A copy of the call.
+    pub fn copied(&self, alloc: Global) -> Result<Call, Memory>
+        ensures { IfOk result (λ call. call ≡ self.now) }
+    {
+        Ok(match self {
+            Call::Recording { list, what } => Call::Recording { list: *list, what: *what },
+            Call::Close { list } => Call::Close { list: *list },
+            Call::Reset { list, allocator } => Call::Reset { list: *list, allocator: *allocator },
+            Call::Execute { queue, lists } => Call::Execute { queue: *queue, lists: Seq::from_slice(alloc, lists.as_slice())? },
+            Call::Signal { queue, fence, value } => Call::Signal { queue: *queue, fence: *fence, value: *value },
+            Call::HostWait { fence, value } => Call::HostWait { fence: *fence, value: *value },
+            Call::Write { buffer, offset, words } => Call::Write { buffer: *buffer, offset: *offset, words: Seq::from_slice(alloc, words.as_slice())? },
+            Call::Read { buffer, offset, bytes } => Call::Read { buffer: *buffer, offset: *offset, bytes: *bytes },
+        })
+    }
+}
+
 /// The answer of a call.
 #[derive(Debug, PartialEq, Eq, Drop)]
 pub enum Reply {
@@ -72,4 +93,18 @@ pub enum Reply {
     /// Words of a buffer.
     Words(Seq<u32>),
     Error(Hresult),
+}
+
+impl Reply {
+    /// A copy of the reply.
+    pub fn copied(&self, alloc: Global) -> Result<Reply, Memory>
+        ensures { IfOk result (λ reply. reply ≡ self.now) }
+    {
+        Ok(match self {
+            Reply::Done => Reply::Done,
+            Reply::Value(value) => Reply::Value(*value),
+            Reply::Words(words) => Reply::Words(Seq::from_slice(alloc, words.as_slice())?),
+            Reply::Error(error) => Reply::Error(*error),
+        })
+    }
 }

@@ -1,0 +1,148 @@
+-- Events keep the shape of a state, and lists short.
+use Rattle.std.proofs.Common.{ℕ, zero, suc, ◌≡◌, ◌≢◌, ◌<◌, ◌≤◌, ◌+◌, ◌*◌, ◌/◌, nat_le, refl, sym, ap, ◌∙◌, subst, Bool, true, false, cond, List, [], ◌∷◌, ◌++◌, map, take, drop, length, slice_get, length-append, append_assoc, append-nil, add-one, Option, Some, None, arith}
+use Rattle.std.proofs.Math.ListN.{length-map}
+use Rattle.std.proofs.lemmas.Bool.{cases_eq}
+use Rattle.std.proofs.lemmas.Bool.Decides.{nat_tests}
+use Rattle.dx_base.specs.Lists.{changed_at}
+use Rattle.dx_base.proofs.Lists.{length_changed}
+use Rattle.dx_base.specs.declared.hresult.Hresult.{Hresult}
+use Rattle.dx_base.specs.declared.hresult.Hresult.TheVariants.{Fail}
+use Rattle.d3d_machine.specs.declared.world.World.{World}
+use Rattle.d3d_machine.specs.declared.calls.Call.{Call}
+use Rattle.d3d_machine.specs.declared.calls.Call.TheVariants as call
+use Rattle.d3d_machine.specs.declared.calls.Record.{Record}
+use Rattle.d3d_machine.specs.declared.calls.Record.TheVariants.{Copy}
+use Rattle.d3d_machine.specs.declared.events.Listed.{Listed}
+use Rattle.d3d_machine.specs.declared.events.Command.{Command}
+use Rattle.d3d_machine.specs.declared.events.Operation.{Operation}
+use Rattle.d3d_machine.specs.declared.events.Operation.TheVariants as operation
+use Rattle.d3d_machine.specs.declared.events.Event.{Event}
+use Rattle.d3d_machine.specs.declared.events.Event.TheVariants as event
+use Rattle.d3d_machine.specs.State.{Desk, State, Place, list_of, called_of, value_of, words_at, is_recording, first_state, first_desk, opening_place, declared_list, zeros}
+use Rattle.d3d_machine.specs.Replies.{refusal, refuse_if, record_error, argument_error}
+use Rattle.d3d_machine.specs.Effects.{overwritten, effect, after_refused, failed_if, desk_or, counted, desk_after_call, takes_value, marked_place, dropped, desk_after_operation, head_of, woken, desk_after, written, memory_or, memory_after_operation, memory_after, after_record, after_commands, after, after_all, recorded, recorded_or, kept_or, closed, failed, begun, gathered, begins_wait}
+use Rattle.d3d_machine.specs.Shape.{HasLengths, HasShape, AreShort}
+
+pub first_has_shape : (w : World) → HasShape w (first_state w)
+first_has_shape w = record {
+  desk = record {
+    fences = refl;
+    called = length-map w.queues (λ _. []);
+    lists = length-map w.lists (λ _. declared_list);
+    threads = length-map w.scripts (λ _. opening_place);
+  };
+  memory = length-map w.resources zeros;
+}
+
+effect_keeps : (w : World) (d : Desk) (t : ℕ) (c : Call) → HasLengths w d → HasLengths w (effect w d t c)
+effect_keeps w d t (call.Recording l what) h = record { fences = h.fences; called = h.called; lists = length_changed (recorded w what) d.lists l.0 ∙ h.lists; threads = h.threads }
+effect_keeps w d t (call.Close l) h = record { fences = h.fences; called = h.called; lists = length_changed closed d.lists l.0 ∙ h.lists; threads = h.threads }
+effect_keeps w d t (call.Reset l a) h = record { fences = h.fences; called = h.called; lists = length_changed (λ _. begun a.0) d.lists l.0 ∙ h.lists; threads = h.threads }
+effect_keeps w d t (call.Execute q ls) h = record {
+  fences = h.fences;
+  called = length_changed (λ os. os ++ operation.Execute (gathered d.lists (map (λ l. l.0) ls)) ∷ []) d.called q.0 ∙ h.called;
+  lists = h.lists;
+  threads = h.threads;
+}
+effect_keeps w d t (call.Signal q f v) h = record {
+  fences = h.fences;
+  called = length_changed (λ os. os ++ operation.Signal f v ∷ []) d.called q.0 ∙ h.called;
+  lists = h.lists;
+  threads = h.threads;
+}
+effect_keeps w d t (call.HostWait f v) h = record {
+  fences = h.fences;
+  called = h.called;
+  lists = h.lists;
+  threads = length_changed (begins_wait (value_of d f.0) f.0 v) d.threads t ∙ h.threads;
+}
+effect_keeps w d t (call.Write b offset ws) h = h
+effect_keeps w d t (call.Read b offset bytes) h = h
+
+failed_keeps : (w : World) (b : Bool) (l : ℕ) (d : Desk) → HasLengths w d → HasLengths w (failed_if b l d)
+failed_keeps w true l d h = record { fences = h.fences; called = h.called; lists = length_changed failed d.lists l ∙ h.lists; threads = h.threads }
+failed_keeps w false l d h = h
+
+refused_keeps : (w : World) (d : Desk) (c : Call) → HasLengths w d → HasLengths w (after_refused d c)
+refused_keeps w d (call.Recording l what) h = h
+refused_keeps w d (call.Close l) h = failed_keeps w (is_recording (list_of d.lists l.0)) l.0 d h
+refused_keeps w d (call.Reset l a) h = h
+refused_keeps w d (call.Execute q ls) h = h
+refused_keeps w d (call.Signal q f v) h = h
+refused_keeps w d (call.HostWait f v) h = h
+refused_keeps w d (call.Write b offset ws) h = h
+refused_keeps w d (call.Read b offset bytes) h = h
+
+either_keeps : (w : World) (r : Option Hresult) (good bad : Desk) → HasLengths w good → HasLengths w bad → HasLengths w (desk_or r good bad)
+either_keeps w None good bad g b = g
+either_keeps w (Some e) good bad g b = b
+
+counted_keeps : (w : World) (t : ℕ) (d : Desk) → HasLengths w d → HasLengths w (counted t d)
+counted_keeps w t d h = record { fences = h.fences; called = h.called; lists = h.lists; threads = length_changed (λ p. record p { made = p.made + 1 }) d.threads t ∙ h.threads }
+
+woken_keeps : (w : World) (t : ℕ) (d : Desk) → HasLengths w d → HasLengths w (woken t d)
+woken_keeps w t d h = record { fences = h.fences; called = h.called; lists = h.lists; threads = length_changed (λ p. record p { waits = None }) d.threads t ∙ h.threads }
+
+dropped_keeps : (w : World) (d : Desk) (q : ℕ) → HasLengths w d → HasLengths w (dropped d q)
+dropped_keeps w d q h = record { fences = h.fences; called = length_changed (drop 1) d.called q ∙ h.called; lists = h.lists; threads = h.threads }
+
+operation_keeps : (w : World) (d : Desk) (o : Option Operation) → HasLengths w d → HasLengths w (desk_after_operation d o)
+operation_keeps w d None h = h
+operation_keeps w d (Some (operation.Execute commands)) h = h
+operation_keeps w d (Some (operation.Signal f v)) h = record {
+  fences = length_changed (λ _. v) d.fences f.0 ∙ h.fences;
+  called = h.called;
+  lists = h.lists;
+  threads = length-map d.threads (marked_place f.0 v) ∙ h.threads;
+}
+
+desk_keeps : (w : World) (d : Desk) (e : Event) → HasLengths w d → HasLengths w (desk_after w d e)
+desk_keeps w d (event.Call t c r) h =
+    counted_keeps w t.0 (desk_or (refusal w d c) (effect w d t.0 c) (after_refused d c))
+        (either_keeps w (refusal w d c) (effect w d t.0 c) (after_refused d c) (effect_keeps w d t.0 c h) (refused_keeps w d c h))
+desk_keeps w d (event.Awake t) h = woken_keeps w t.0 d h
+desk_keeps w d (event.Queue q) h = operation_keeps w (dropped d q.0) (head_of d q.0) (dropped_keeps w d q.0 h)
+
+record_length : (what : Record) (m : List (List ℕ)) → length (after_record what m) ≡ length m
+record_length (Copy d doff s soff bytes) m = length_changed (overwritten (doff / 4) (take (bytes / 4) (drop (soff / 4) (words_at m s.0)))) m d.0
+
+pub commands_length : (cs : List Command) (m : List (List ℕ)) → length (after_commands cs m) ≡ length m
+commands_length [] m = refl
+commands_length (c ∷ cs) m = commands_length cs (after_record c.what m) ∙ record_length c.what m
+
+written_length : (c : Call) (m : List (List ℕ)) → length (written c m) ≡ length m
+written_length (call.Recording l what) m = refl
+written_length (call.Close l) m = refl
+written_length (call.Reset l a) m = refl
+written_length (call.Execute q ls) m = refl
+written_length (call.Signal q f v) m = refl
+written_length (call.HostWait f v) m = refl
+written_length (call.Write b offset ws) m = length_changed (overwritten (offset / 4) ws) m b.0
+written_length (call.Read b offset bytes) m = refl
+
+either_length : (r : Option Hresult) (good bad : List (List ℕ)) → length good ≡ length bad → length (memory_or r good bad) ≡ length bad
+either_length None good bad h = h
+either_length (Some e) good bad h = refl
+
+operation_length : (m : List (List ℕ)) (o : Option Operation) → length (memory_after_operation m o) ≡ length m
+operation_length m None = refl
+operation_length m (Some (operation.Execute commands)) = commands_length commands m
+operation_length m (Some (operation.Signal f v)) = refl
+
+memory_length : (w : World) (s : State) (e : Event) → length (memory_after w s e) ≡ length s.memory
+memory_length w s (event.Call t c r) = either_length (refusal w s.desk c) (written c s.memory) s.memory (written_length c s.memory)
+memory_length w s (event.Awake t) = refl
+memory_length w s (event.Queue q) = operation_length s.memory (head_of s.desk q.0)
+
+-- an event keeps the shape
+pub after_has_shape : (w : World) (s : State) (e : Event) → HasShape w s → HasShape w (after w s e)
+after_has_shape w s e h = record { desk = desk_keeps w s.desk e h.desk; memory = memory_length w s e ∙ h.memory }
+
+-- events keep the shape
+pub plays_lengths : (w : World) (s : State) (es : List Event) → HasShape w s → HasShape w (after_all w s es)
+plays_lengths w s [] h = h
+plays_lengths w s (e ∷ es) h = plays_lengths w (after w s e) es (after_has_shape w s e h)
+
+-- the state after a history has the world's shape
+pub run_has_shape : (w : World) (h : List Event) → HasShape w (after_all w (first_state w) h)
+run_has_shape w h = plays_lengths w (first_state w) h (first_has_shape w)
