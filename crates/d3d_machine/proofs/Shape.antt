@@ -20,7 +20,8 @@ use Rattle.d3d_machine.specs.declared.events.Event.{Event}
 use Rattle.d3d_machine.specs.declared.events.Event.TheVariants as event
 use Rattle.d3d_machine.specs.State.{Desk, State, Place, list_of, called_of, value_of, words_at, is_recording, first_state, first_desk, opening_place, declared_list, zeros}
 use Rattle.d3d_machine.specs.Replies.{refusal, refuse_if, record_error, argument_error}
-use Rattle.d3d_machine.specs.Effects.{overwritten, effect, after_refused, failed_if, desk_or, counted, desk_after_call, takes_value, marked_place, dropped, desk_after_operation, head_of, woken, desk_after, written, memory_or, memory_after_operation, memory_after, after_record, after_commands, after, after_all, recorded, recorded_or, kept_or, closed, failed, begun, gathered, begins_wait}
+use Rattle.dx_base.specs.Lists.{put, range_of}
+use Rattle.d3d_machine.specs.Effects.{effect, after_refused, failed_if, desk_or, counted, desk_after_call, takes_value, marked_place, dropped, desk_after_operation, head_of, woken, desk_after, written, memory_or, memory_after_operation, memory_after, after_record, after_commands, after, after_all, recorded, recorded_or, kept_or, closed, failed, begun, gathered, begins_wait}
 use Rattle.d3d_machine.specs.Shape.{HasLengths, HasShape, AreShort}
 
 pub first_has_shape : (w : World) → HasShape w (first_state w)
@@ -104,7 +105,7 @@ desk_keeps w d (event.Awake t) h = woken_keeps w t.0 d h
 desk_keeps w d (event.Queue q) h = operation_keeps w (dropped d q.0) (head_of d q.0) (dropped_keeps w d q.0 h)
 
 record_length : (what : Record) (m : List (List ℕ)) → length (after_record what m) ≡ length m
-record_length (Copy d doff s soff bytes) m = length_changed (overwritten (doff / 4) (take (bytes / 4) (drop (soff / 4) (words_at m s.0)))) m d.0
+record_length (Copy d doff s soff bytes) m = length_changed (put (doff / 4) (range_of (soff / 4) (bytes / 4) (words_at m s.0))) m d.0
 
 pub commands_length : (cs : List Command) (m : List (List ℕ)) → length (after_commands cs m) ≡ length m
 commands_length [] m = refl
@@ -117,7 +118,7 @@ written_length (call.Reset l a) m = refl
 written_length (call.Execute q ls) m = refl
 written_length (call.Signal q f v) m = refl
 written_length (call.HostWait f v) m = refl
-written_length (call.Write b offset ws) m = length_changed (overwritten (offset / 4) ws) m b.0
+written_length (call.Write b offset ws) m = length_changed (put (offset / 4) ws) m b.0
 written_length (call.Read b offset bytes) m = refl
 
 either_length : (r : Option Hresult) (good bad : List (List ℕ)) → length good ≡ length bad → length (memory_or r good bad) ≡ length bad

@@ -1,7 +1,7 @@
 -- The state after an event. Every event has an effect here; whether it may come stands apart.
 use Rattle.std.specs.Prelude.{ℕ, ◌≡◌, ◌+◌, ◌*◌, ◌/◌, ◌==◌, ◌&&◌, ◌||◌, not, nat_lt, nat_le, List, [], ◌∷◌, ◌++◌, length, map, slice_get, take, drop, Option, Some, None, Bool, true, false, if◌then◌else◌}
 use Rattle.std.specs.List.{flat_map}
-use Rattle.dx_base.specs.Lists.{changed_at}
+use Rattle.dx_base.specs.Lists.{changed_at, put, range_of}
 use Rattle.dx_base.specs.declared.hresult.Hresult.{Hresult}
 use Rattle.d3d_machine.specs.declared.world.World.{World}
 use Rattle.d3d_machine.specs.declared.calls.Call.{Call}
@@ -18,14 +18,10 @@ use Rattle.d3d_machine.specs.declared.events.Event.TheVariants as event
 use Rattle.d3d_machine.specs.State.{Waiting, Place, Desk, State, list_of, called_of, value_of, words_at, is_recording}
 use Rattle.d3d_machine.specs.Replies.{refusal, record_error}
 
--- a list of words with the words from that place on overwritten; what would pass the end is dropped
-abbrev pub overwritten : ℕ → List ℕ → List ℕ → List ℕ
-overwritten first ws old = take first old ++ (take (length (drop first old)) ws ++ drop (first + length ws) old)
-
 -- the memory after one command
 abbrev pub after_record : Record → List (List ℕ) → List (List ℕ)
 after_record (Copy d doff s soff bytes) m =
-    changed_at (overwritten (doff / 4) (take (bytes / 4) (drop (soff / 4) (words_at m s.0)))) d.0 m
+    changed_at (put (doff / 4) (range_of (soff / 4) (bytes / 4) (words_at m s.0))) d.0 m
 
 -- the memory after commands in order
 abbrev pub after_commands : List Command → List (List ℕ) → List (List ℕ)
@@ -150,7 +146,7 @@ written (call.Reset l a) m = m
 written (call.Execute q ls) m = m
 written (call.Signal q f v) m = m
 written (call.HostWait f v) m = m
-written (call.Write b offset ws) m = changed_at (overwritten (offset / 4) ws) b.0 m
+written (call.Write b offset ws) m = changed_at (put (offset / 4) ws) b.0 m
 written (call.Read b offset bytes) m = m
 
 abbrev pub memory_or : Option Hresult → List (List ℕ) → List (List ℕ) → List (List ℕ)

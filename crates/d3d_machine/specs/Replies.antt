@@ -1,6 +1,7 @@
 -- The reply of each call: the first refusal whose condition holds, and otherwise what the call answers.
 use Rattle.std.specs.Prelude.{ℕ, ◌≡◌, ◌+◌, ◌*◌, ◌/◌, ◌==◌, ◌&&◌, ◌||◌, not, nat_lt, nat_le, List, [], ◌∷◌, length, slice_get, take, drop, Option, Some, None, Bool, true, false, is_some}
 use Rattle.std.specs.List.{list_all, list_any}
+use Rattle.dx_base.specs.Lists.{range_of}
 use Rattle.dx_base.specs.declared.hresult.Hresult.{Hresult}
 use Rattle.dx_base.specs.declared.hresult.Hresult.TheVariants.{InvalidArg, Fail}
 use Rattle.dx_base.specs.declared.kinds.ListType.{ListType}
@@ -81,7 +82,7 @@ good_reply m (call.Execute q ls) = reply.Done
 good_reply m (call.Signal q f v) = reply.Done
 good_reply m (call.HostWait f v) = reply.Done
 good_reply m (call.Write b offset ws) = reply.Done
-good_reply m (call.Read b offset bytes) = reply.Words (take (bytes / 4) (drop (offset / 4) (words_at m b.0)))
+good_reply m (call.Read b offset bytes) = reply.Words (range_of (offset / 4) (bytes / 4) (words_at m b.0))
 
 abbrev pub reply_or : Option Hresult → Reply → Reply
 reply_or None r = r

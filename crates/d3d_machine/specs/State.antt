@@ -1,5 +1,5 @@
 -- The state of the Direct3D machine.
-use Rattle.std.specs.Prelude.{ℕ, ◌≡◌, ◌==◌, List, [], ◌∷◌, length, slice_get, map, replicate, Option, Some, None, Bool, true, false}
+use Rattle.std.specs.Prelude.{ℕ, ◌≡◌, ◌==◌, List, [], ◌∷◌, length, slice_get, slice_index_or, map, replicate, Option, Some, None, Bool, true, false}
 use Rattle.d3d_machine.specs.declared.world.World.{World}
 use Rattle.d3d_machine.specs.declared.calls.Call.{Call}
 use Rattle.d3d_machine.specs.declared.events.Listed.{Listed}
@@ -76,7 +76,7 @@ value_of d f = elim (slice_get d.fences f) [ None ↦ 0 | Some v ↦ v ]
 
 -- the words of that resource
 abbrev pub words_at : List (List ℕ) → ℕ → List ℕ
-words_at m r = elim (slice_get m r) [ None ↦ [] | Some ws ↦ ws ]
+words_at m r = slice_index_or m r []
 
 -- the calls of that thread
 abbrev pub script_of : World → ℕ → List Call

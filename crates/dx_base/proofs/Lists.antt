@@ -1,6 +1,8 @@
 -- A list with the item at a place changed: by writing there, its length, and its items.
 use Rattle.std.proofs.Common.{ℕ, zero, suc, ◌≡◌, ◌≢◌, ◌<◌, ◌≤◌, ◌+◌, ◌∙◌, refl, sym, ap, List, [], ◌∷◌, ◌++◌, length, get_or, slice_set, slice_get, Option, Some, None, option_map, map, take, add-one, arith}
-use Rattle.dx_base.specs.Lists.{changed_at}
+use Rattle.std.proofs.lemmas.List.{length-take, length-append, length-drop}
+use Rattle.std.proofs.Common.{drop}
+use Rattle.dx_base.specs.Lists.{changed_at, put}
 
 module _ {A : Type 0} where
   -- writing at a place what a function makes of the item there
@@ -85,3 +87,10 @@ map_changed g f e (suc k) (x ∷ xs) same = ap (λ ys. g x ∷ ys) (map_changed 
 pub map_alike : {A B : Type 0} (f g : A → B) (xs : List A) → ((x : A) → f x ≡ g x) → map f xs ≡ map g xs
 map_alike f g [] same = refl
 map_alike f g (x ∷ xs) same = ap (λ y. y ∷ map f xs) (same x) ∙ ap (λ ys. g x ∷ ys) (map_alike f g xs same)
+
+-- words written into others leave their number
+pub length_put : (first : ℕ) (new words : List ℕ) → length (put first new words) ≡ length words
+length_put first new words =
+    length-take (length words) (take first words ++ (new ++ drop (first + length new) words))
+    ∙ omega (arith, length-append (take first words) (new ++ drop (first + length new) words), length-append new (drop (first + length new) words),
+      length-take first words, length-drop (first + length new) words)

@@ -1,6 +1,7 @@
 -- The state of the Vulkan machine after a step, a submission, and an access of the host.
 use Rattle.std.specs.Prelude.{ℕ, zero, suc, ◌+◌, ◌-◌, ◌==◌, Bool, true, false, List, [], ◌∷◌, ◌++◌, length, take, drop, replicate, slice_get, slice_set, slice_index_or, Option, Some, None, if◌then◌else◌}
 use Rattle.dx_base.specs.Lists.{changed_at}
+pub use Rattle.dx_base.specs.Lists.{put, range_of}
 use Rattle.vk_port.specs.declared.commands.Batch.{Batch}
 use Rattle.vk_port.specs.declared.commands.VkCommand.{VkCommand}
 use Rattle.vk_port.specs.declared.commands.VkCommand.TheVariants.{Barrier, Copy}
@@ -9,14 +10,6 @@ use Rattle.vk_port.specs.declared.lanes.Running.{Running}
 use Rattle.vk_port.specs.declared.steps.Stepped.{Stepped}
 use Rattle.vk_port.specs.declared.steps.Stepped.TheVariants.{Passed, Ran, Bumped, Free}
 use Rattle.vk_port.specs.VkState.{VkState, lane_of, words_of}
-
--- words with others written into them from one place on; those that would lie past the end are left out
-abbrev pub put : ℕ → List ℕ → List ℕ → List ℕ
-put first new words = take (length words) (take first words ++ (new ++ drop (first + length new) words))
-
--- some of the words from one place on, as far as there are
-abbrev pub range_of : ℕ → ℕ → List ℕ → List ℕ
-range_of first count words = take count (drop first words)
 
 -- the words of all buffers after a command: a copy (Vulkan 1.3, 19.2) writes those of its words that lie inside
 -- both buffers, a barrier none
