@@ -1,3 +1,4 @@
 pub mod Standing
 pub mod Holding
 pub mod Seating
+pub mod Lowered
