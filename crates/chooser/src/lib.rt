@@ -1,0 +1,6 @@
+//! Where the choices of a run come from.
+#![tactic(auto)]
+
+mod choice;
+
+pub use choice::Chooser;
