@@ -1,8 +1,7 @@
 //! A chooser that gives the numbers of a generator of random numbers.
 
 ghost use Rattle.std.specs.Prelude.{◌≡◌, [], ◌∷◌, ◌++◌, length, None, Some, IfOk, OnErr};
-ghost use Rattle.chooser.specs.Chosen.{seeded};
-ghost use Rattle.rand_pcg.specs.Pcg.{pcg64};
+ghost use Rattle.chooser.specs.Chosen.{seed_of, seeded, seeded_word};
 
 use crate::choice::Chooser;
 use dx_base::Memory;
@@ -22,11 +21,14 @@ pub struct PcgChooser {
 }
 
 impl Model for PcgChooser {
-    ghost use Rattle.chooser.specs.Chosen.{PcgView};
+    ghost use Rattle.std.specs.Prelude.{◌≡◌, length};
+    ghost use Rattle.chooser.specs.Chosen.{PcgView, seed_of, seeded_after};
 
     ghost Value = { PcgView };
 
-    ghost view = { λ c. record { started = c.started; given = c.given.items; generator = c.generator } };
+    ghost view = { λ c. record { started = c.started; given = c.given.items } };
+
+    ghost invariant = { λ c. c.generator ≡ seeded_after (seed_of c.started) (length c.given.items) };
 }
 
 #[tactic(auto, unfolding(crate::specs::Chosen::seeded))]
@@ -39,7 +41,7 @@ fn generator_of(number: u64) -> Lcg128Xsl64
 impl PcgChooser {
     /// A chooser that gave no number. It takes no memory.
     pub fn new(alloc: Global) -> PcgChooser
-        ensures { result ≡ record { started = None; given = []; generator = seeded 0 } }
+        ensures { result ≡ record { started = None; given = [] } }
     {
         PcgChooser {
             started: None,
@@ -62,7 +64,7 @@ impl Chooser for PcgChooser {
     ghost started = { λ c. c.started };
 
     fn start(&mut self, number: u64)
-        ensures { self.new ≡ record { started = Some number; given = []; generator = seeded number } }
+        ensures { self.new ≡ record { started = Some number; given = [] } }
     {
         self.started = Some(number);
         self.given.clear();
@@ -70,9 +72,8 @@ impl Chooser for PcgChooser {
     }
 
     fn next(&mut self) -> Result<u64, Memory>
-        ensures number { IfOk result (λ n. n ≡ (pcg64 self.old.generator).0) }
-        ensures ok { IfOk result (λ n. self.new
-            ≡ record { started = self.old.started; given = self.old.given ++ n ∷ []; generator = (pcg64 self.old.generator).1 }) }
+        ensures number { IfOk result (λ n. n ≡ seeded_word (seed_of self.old.started) (length self.old.given)) }
+        ensures ok { IfOk result (λ n. self.new ≡ record self.old { given = self.old.given ++ n ∷ [] }) }
         ensures same { OnErr result (self.new ≡ self.old) }
     {
         self.given.reserve(1)?;
