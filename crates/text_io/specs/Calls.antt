@@ -48,3 +48,10 @@ pub record SinkView : Type 0 where
 -- the next write fails: it is one that is to, or no room is left
 abbrev pub refuses_next : SinkView → Bool
 refuses_next s = fails_next s.calls || (s.room == 0)
+
+-- a source or a sink over one of the standard library's readers or writers
+pub record StdView (T : Type 0) : Type 0 where
+  -- the reader, or the writer
+  pub inner : T
+  -- how many faults came, which stops at the last number of its type
+  pub faults : ℕ
