@@ -4,6 +4,8 @@
 mod choice;
 mod list_chooser;
 mod pcg_chooser;
+#[cfg(test)]
+mod tests;
 
 pub use choice::Chooser;
 pub use list_chooser::ListChooser;
