@@ -107,7 +107,9 @@ fn the_generator_gives_the_published_words(rt: HostRuntime) -> Result<(), Fail> 
 }
 
 #[test]
-fn a_list_is_given_in_order_and_then_zeros_and_again_from_the_first(rt: HostRuntime) -> Result<(), Fail> {
+fn a_list_is_given_in_order_and_then_zeros_and_again_from_the_first(
+    rt: HostRuntime,
+) -> Result<(), Fail> {
     let mut chooser = ListChooser::new(rt.alloc(), [7, 0, 9].to_vec(rt.alloc())?);
     for number in [0, 1] {
         chooser.start(number);

@@ -1,5 +1,5 @@
 -- Bytes appended one part after another.
-use Rattle.std.proofs.Common.{◌≡◌, ℕ, ◌+◌, List, ◌++◌, take, drop, Option, None, Some, append_assoc}
+use Rattle.std.proofs.Common.{ℕ, ◌+◌, List, take, drop, Option, None, Some, append_assoc}
 use Rattle.std.proofs.Math.Seq.{take-add}
 use Rattle.std.specs.Io.KnownBytes.{Appends}
 

@@ -37,7 +37,9 @@ fn a_source_is_read_to_its_end_or_to_the_bound(rt: HostRuntime) -> Result<(), Fa
 }
 
 #[test]
-fn a_read_that_fails_in_mid_stream_is_a_fault_and_takes_nothing(rt: HostRuntime) -> Result<(), Fail> {
+fn a_read_that_fails_in_mid_stream_is_a_fault_and_takes_nothing(
+    rt: HostRuntime,
+) -> Result<(), Fail> {
     let all = some_bytes(rt.alloc(), LENGTH)?;
     for (call, taken) in [(1, 0), (2, 4_096), (3, 8_192), (4, 10_000)] {
         let fails = [call].to_vec(rt.alloc())?;
@@ -54,8 +56,15 @@ fn a_read_that_fails_in_mid_stream_is_a_fault_and_takes_nothing(rt: HostRuntime)
 }
 
 #[test]
-fn a_write_that_fails_in_mid_stream_is_a_fault_and_appends_nothing(rt: HostRuntime) -> Result<(), Fail> {
-    for (call, held) in [(1, "secondthird"), (2, "firstthird"), (3, "firstsecond"), (4, "firstsecondthird")] {
+fn a_write_that_fails_in_mid_stream_is_a_fault_and_appends_nothing(
+    rt: HostRuntime,
+) -> Result<(), Fail> {
+    for (call, held) in [
+        (1, "secondthird"),
+        (2, "firstthird"),
+        (3, "firstsecond"),
+        (4, "firstsecondthird"),
+    ] {
         let fails = [call].to_vec(rt.alloc())?;
         let mut sink = BytesSink::new(rt.alloc(), 16, fails)?;
         for (k, text) in [(1, "first"), (2, "second"), (3, "third")] {
@@ -89,7 +98,9 @@ fn no_sink_takes_every_slice_whole(rt: HostRuntime) {
 }
 
 #[test]
-fn a_source_over_a_reader_gives_its_bytes_and_counts_its_errors(rt: HostRuntime) -> Result<(), Fail> {
+fn a_source_over_a_reader_gives_its_bytes_and_counts_its_errors(
+    rt: HostRuntime,
+) -> Result<(), Fail> {
     let all = some_bytes(rt.alloc(), LENGTH)?;
     let mut source = StdSource::new(all.as_slice());
     let got = read_all(rt.alloc(), &mut source, LENGTH + 1)?;
@@ -104,7 +115,9 @@ fn a_source_over_a_reader_gives_its_bytes_and_counts_its_errors(rt: HostRuntime)
 }
 
 #[test]
-fn a_sink_over_a_writer_passes_its_bytes_on_and_counts_its_errors(rt: HostRuntime) -> Result<(), Fail> {
+fn a_sink_over_a_writer_passes_its_bytes_on_and_counts_its_errors(
+    rt: HostRuntime,
+) -> Result<(), Fail> {
     let all = some_bytes(rt.alloc(), LENGTH)?;
     let mut sink = StdSink::new(Vec::new(rt.alloc()));
     assert!(rt; write_all(&mut sink, &all).is_ok());

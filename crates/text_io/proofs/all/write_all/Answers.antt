@@ -1,4 +1,4 @@
-use Rattle.std.proofs.Common.{take, rules, arith, subst}
+use Rattle.std.proofs.Common.{take, rules, subst}
 use Rattle.std.specs.Io.KnownBytes.{Appends}
 use Rattle.text_io.proofs.Appending.{appends_more}
 use Rattle.text_io.proofs.all.write_all.Goals as goal
