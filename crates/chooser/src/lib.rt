@@ -1,0 +1,12 @@
+//! Where the choices of a run come from.
+#![tactic(auto)]
+
+mod choice;
+mod list_chooser;
+mod pcg_chooser;
+#[cfg(test)]
+mod tests;
+
+pub use choice::Chooser;
+pub use list_chooser::ListChooser;
+pub use pcg_chooser::PcgChooser;
