@@ -94,3 +94,17 @@ length_put first new words =
     length-take (length words) (take first words ++ (new ++ drop (first + length new) words))
     ∙ omega (arith, length-append (take first words) (new ++ drop (first + length new) words), length-append new (drop (first + length new) words),
       length-take first words, length-drop (first + length new) words)
+
+-- a written item, seen through a function
+pub map_write : {A B : Type 0} (f : A → B) (g : B → B) (xs : List A) (i : ℕ) (x y : A) → i < length xs → x ≡ get_or xs i x → f y ≡ g (f x) →
+    map f (slice_set xs i y) ≡ changed_at g i (map f xs)
+map_write f g [] i x y l h e = refl
+map_write f g (z ∷ xs) zero x y l h e = ap (λ t. t ∷ map f xs) (e ∙ ap (λ t. g (f t)) h)
+map_write f g (z ∷ xs) (suc i) x y l h e = ap (λ t. f z ∷ t) (map_write f g xs i x y (omega arith) h e)
+
+-- a written item that looks as before, seen through a function
+pub map_write_same : {A B : Type 0} (f : A → B) (xs : List A) (i : ℕ) (x y : A) → i < length xs → x ≡ get_or xs i x → f y ≡ f x →
+    map f (slice_set xs i y) ≡ map f xs
+map_write_same f [] i x y l h e = refl
+map_write_same f (z ∷ xs) zero x y l h e = ap (λ t. t ∷ map f xs) (e ∙ ap f h)
+map_write_same f (z ∷ xs) (suc i) x y l h e = ap (λ t. f z ∷ t) (map_write_same f xs i x y (omega arith) h e)

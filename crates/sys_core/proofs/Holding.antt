@@ -15,7 +15,7 @@ use Rattle.d3d_machine.proofs.Operations.{operations_append, counter_append}
 use Rattle.vk_port.specs.Journal.{next_number}
 use Rattle.vk_port.specs.VkState.{VkState}
 use Rattle.sys_core.specs.declared.parts.Signalled.{Signalled}
-use Rattle.sys_core.specs.declared.parts.Held.{Held}
+use Rattle.sys_core.specs.Parts.{Queued, last_with, signal_of, without_first}
 use Rattle.sys_core.specs.Lowering.{last_signal}
 use Rattle.sys_core.specs.Steps.{submitted_of}
 use Rattle.sys_core.specs.Consistent.{IsHeld, signals_of}
@@ -26,11 +26,6 @@ get_of_take (suc n) [] i lt = refl
 get_of_take (suc n) (x ∷ xs) zero lt = refl
 get_of_take (suc n) (x ∷ xs) (suc i) lt = get_of_take n xs i (omega arith)
 
--- the number of the last signal, when one more operation comes behind
-abbrev pub last_with : ℕ → ℕ → Operation → ℕ
-last_with n found (Execute cs) = found
-last_with n found (Signal f v) = n
-
 pub last_signal_append : (n found : ℕ) (os : List Operation) (o : Operation) → last_signal n found (os ++ o ∷ []) ≡ last_with (n + length os) (last_signal n found os) o
 last_signal_append n found [] (Execute cs) = refl
 last_signal_append n found [] (Signal f v) = omega arith
@@ -38,11 +33,6 @@ last_signal_append n found (Execute cs ∷ os) o =
     last_signal_append (n + 1) found os o ∙ ap (λ k. last_with k (last_signal (n + 1) found os) o) (omega arith)
 last_signal_append n found (Signal f v ∷ os) o =
     last_signal_append (n + 1) n os o ∙ ap (λ k. last_with k (last_signal (n + 1) n os) o) (omega arith)
-
--- the signals of one operation
-abbrev pub signal_of : ℕ → Operation → List Signalled
-signal_of n (Execute cs) = []
-signal_of n (Signal f v) = (record { number = n; fence = f; value = v }) ∷ []
 
 pub signals_of_append : (n : ℕ) (os : List Operation) (o : Operation) → signals_of n (os ++ o ∷ []) ≡ signals_of n os ++ signal_of (n + length os) o
 signals_of_append n [] (Execute cs) = refl
@@ -74,9 +64,9 @@ slice_get-drop zero (y ∷ ys) = refl
 slice_get-drop (suc n) (y ∷ ys) = slice_get-drop n ys
 
 -- after a call, or the waking of a thread
-pub held_event : (w : World) (h : List Event) (e : Event) (v u : VkState) (q : ℕ) (x y : Held) → IsHeld w h v q x → completions_by q e ≡ 0 → u.journal ≡ v.journal →
-    y.submitted ≡ x.submitted → y.last_signal ≡ x.last_signal → y.signals.items ≡ x.signals.items →
-    y.operations.items ≡ x.operations.items ++ called_by w (state_after w h).desk q e → IsHeld w (h ++ e ∷ []) u q y
+pub held_event : (w : World) (h : List Event) (e : Event) (v u : VkState) (q : ℕ) (x y : Queued) → IsHeld w h v q x → completions_by q e ≡ 0 → u.journal ≡ v.journal →
+    y.submitted ≡ x.submitted → y.last_signal ≡ x.last_signal → y.signals ≡ x.signals →
+    y.operations ≡ x.operations ++ called_by w (state_after w h).desk q e → IsHeld w (h ++ e ∷ []) u q y
 held_event w h e v u q x y held none journal submitted last signals more =
     let os : List Operation = operations w h q in
     let by : List Operation = called_by w (state_after w h).desk q e in
@@ -95,10 +85,10 @@ held_event w h e v u q x y held none journal submitted last signals more =
     }
 
 -- after the submission of a queue's next operation
-pub held_submit : (w : World) (h : List Event) (v u : VkState) (q : ℕ) (x y : Held) (o : Operation) → IsHeld w h v q x → counter h q ≤ x.submitted →
-    slice_get x.operations.items 0 ≡ Some o → submitted_of u q ≡ submitted_of v q + 1 →
+pub held_submit : (w : World) (h : List Event) (v u : VkState) (q : ℕ) (x y : Queued) (o : Operation) → IsHeld w h v q x → counter h q ≤ x.submitted →
+    slice_get x.operations 0 ≡ Some o → submitted_of u q ≡ submitted_of v q + 1 →
     y.submitted ≡ x.submitted + 1 → y.last_signal ≡ last_with (x.submitted + 1) x.last_signal o →
-    y.signals.items ≡ x.signals.items ++ signal_of (x.submitted + 1) o → y.operations.items ≡ drop 1 x.operations.items → IsHeld w h u q y
+    y.signals ≡ x.signals ++ signal_of (x.submitted + 1) o → y.operations ≡ drop 1 x.operations → IsHeld w h u q y
 held_submit w h v u q x y o held done head next submitted last signals less =
     let os : List Operation = operations w h q in
     let n : ℕ = x.submitted in
@@ -120,20 +110,15 @@ held_submit w h v u q x y o held done head next submitted last signals less =
         ∙ ap (λ xs. signals_of (c + 1) (drop c xs)) (sym front);
     }
 
--- the submitted signals when the oldest operation has completed
-abbrev pub without_first : Operation → List Signalled → List Signalled
-without_first (Execute cs) xs = xs
-without_first (Signal f v) xs = drop 1 xs
-
 without_first_is : (n : ℕ) (o : Operation) (os : List Operation) → without_first o (signals_of n (o ∷ os)) ≡ signals_of (n + 1) os
 without_first_is n (Execute cs) os = refl
 without_first_is n (Signal f v) os = refl
 
 -- after the completion of an operation of a queue, of which so many are complete
-pub held_complete : (w : World) (h : List Event) (e : Event) (v u : VkState) (q : ℕ) (x y : Held) (o : Operation) → IsHeld w h v q x → completions_by q e ≡ 1 →
+pub held_complete : (w : World) (h : List Event) (e : Event) (v u : VkState) (q : ℕ) (x y : Queued) (o : Operation) → IsHeld w h v q x → completions_by q e ≡ 1 →
     called_by w (state_after w h).desk q e ≡ [] → counter h q < x.submitted → slice_get (operations w h q) (counter h q) ≡ Some o → u.journal ≡ v.journal →
-    y.submitted ≡ x.submitted → y.last_signal ≡ x.last_signal → y.operations.items ≡ x.operations.items →
-    y.signals.items ≡ without_first o x.signals.items → IsHeld w (h ++ e ∷ []) u q y
+    y.submitted ≡ x.submitted → y.last_signal ≡ x.last_signal → y.operations ≡ x.operations →
+    y.signals ≡ without_first o x.signals → IsHeld w (h ++ e ∷ []) u q y
 held_complete w h e v u q x y o held one none less at journal submitted last more signals =
     let os : List Operation = operations w h q in
     let c : ℕ = counter h q in

@@ -2,3 +2,4 @@ pub mod Standing
 pub mod Holding
 pub mod Seating
 pub mod Lowered
+pub mod Updates

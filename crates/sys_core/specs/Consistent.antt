@@ -20,7 +20,7 @@ use Rattle.vk_port.specs.VkState.{VkState, lane_of}
 use Rattle.sys_core.specs.declared.parts.Armed.{Armed}
 use Rattle.sys_core.specs.declared.parts.Seat.{Seat}
 use Rattle.sys_core.specs.declared.parts.Signalled.{Signalled}
-use Rattle.sys_core.specs.declared.parts.Held.{Held}
+use Rattle.sys_core.specs.Parts.{Queued}
 use Rattle.sys_core.specs.Lowering.{plan_of_world, last_signal}
 use Rattle.sys_core.specs.Stands.{Stands}
 use Rattle.sys_core.specs.Steps.{submitted_of}
@@ -58,17 +58,17 @@ signals_of n (Execute cs ∷ os) = signals_of (n + 1) os
 signals_of n (Signal f v ∷ os) = (record { number = n; fence = f; value = v }) ∷ signals_of (n + 1) os
 
 -- a queue's operations that are not submitted, and its submitted signals that have not completed
-pub record IsHeld (w : World) (h : List Event) (v : VkState) (q : ℕ) (x : Held) : Type 0 where
+pub record IsHeld (w : World) (h : List Event) (v : VkState) (q : ℕ) (x : Queued) : Type 0 where
   pub submitted_is : x.submitted ≡ submitted_of v q
   pub within : x.submitted ≤ length (operations w h q)
-  pub rest : x.operations.items ≡ drop x.submitted (operations w h q)
+  pub rest : x.operations ≡ drop x.submitted (operations w h q)
   pub last_is : x.last_signal ≡ last_signal 1 0 (take x.submitted (operations w h q))
-  pub pending : x.signals.items ≡ signals_of (counter h q + 1) (drop (counter h q) (take x.submitted (operations w h q)))
+  pub pending : x.signals ≡ signals_of (counter h q + 1) (drop (counter h q) (take x.submitted (operations w h q)))
 
 -- the queues' held operations
-pub record AreHeld (w : World) (h : List Event) (v : VkState) (held : List Held) : Type 0 where
+pub record AreHeld (w : World) (h : List Event) (v : VkState) (held : List Queued) : Type 0 where
   pub count : length held ≡ length w.queues
-  pub each : (q : ℕ) (x : Held) → slice_get held q ≡ Some x → IsHeld w h v q x
+  pub each : (q : ℕ) (x : Queued) → slice_get held q ≡ Some x → IsHeld w h v q x
 
 -- how many batches of a queue have finished
 abbrev pub finished_of : VkState → ℕ → ℕ
@@ -86,7 +86,7 @@ pub record IsDevice (w : World) (h : List Event) (v : VkState) : Type 0 where
   pub finished : (q : ℕ) → q < length w.queues → counter h q ≡ (first_number q + finished_of v q) - 1
 
 -- what the system keeps at every step
-pub record IsConsistent (w : World) (h : List Event) (lists : List Listed) (seats : List Seat) (fences : List (List ℕ)) (held : List Held) (v : VkState) : Type 0 where
+pub record IsConsistent (w : World) (h : List Event) (lists : List Listed) (seats : List Seat) (fences : List (List ℕ)) (held : List Queued) (v : VkState) : Type 0 where
   pub world : IsWorld w
   pub run : IsRunButWords w h
   pub lists_are : lists ≡ (state_after w h).desk.lists

@@ -1,4 +1,6 @@
 pub mod Lowering
 pub mod Stands
 pub mod Steps
+pub mod Parts
+pub mod Batches
 pub mod Consistent

@@ -62,8 +62,7 @@ abbrev pub lower_record : Record → VkCommand
 lower_record (Copy d doff s soff bytes) = vk.Copy d.0 (doff / 4) s.0 (soff / 4) (bytes / 4)
 
 abbrev pub lower_commands : List Command → List VkCommand
-lower_commands [] = []
-lower_commands (c ∷ cs) = lower_record c.what ∷ lower_commands cs
+lower_commands cs = map (λ c. lower_record c.what) cs
 
 -- the commands of an operation's batch
 abbrev pub lowered_commands : Operation → List VkCommand

@@ -1,8 +1,15 @@
 //! What the system keeps beside the device: command lists, places of threads, updates of fences, and
 //! operations that are not submitted.
 
-use d3d_machine::Operation;
-use dx_base::{FenceId, Fifo};
+ghost use Rattle.std.specs.Prelude.{◌≡◌, ◌<◌, ◌≤◌, ◌+◌, ◌-◌, ◌++◌, ◌∷◌, [], map, length, slice_get, slice_index_or, Some, None, IfOk, OnOk, OnErr};
+ghost use Rattle.dx_base.specs.Lists.{changed_at};
+ghost use Rattle.d3d_machine.specs.State.{declared_list};
+ghost use Rattle.d3d_machine.specs.Fences.{is_met};
+ghost use Rattle.sys_core.specs.Parts.{queued, updates_in, with_operation, armed_after, is_met_by as met_by, updates_at, opening_seat, no_queue, signal_at as first_signal_at};
+
+use d3d_machine::{Call, Lists, Operation, World};
+use dx_base::{FenceId, Fifo, ListType, Memory, QueueId, Room, Seq};
+use std::alloc::Global;
 
 /// A wait of a thread, with the place, among the fence's updates, of the one that was current at its call.
 #[derive(Clone, Copy, Debug, PartialEq, Eq)]
@@ -18,6 +25,12 @@ pub struct Seat {
     pub made: usize,
     pub waits: Option<Armed>,
 }
+
+/// A thread's place before its first call.
+const OPENING_SEAT: Seat = Seat {
+    made: 0,
+    waits: None,
+};
 
 /// A signal that is submitted and has not completed: the number of its operation, and what it does.
 #[derive(Clone, Copy, Debug, PartialEq, Eq)]
@@ -35,4 +48,156 @@ pub struct Held {
     pub submitted: u64,
     pub last_signal: u64,
     pub signals: Fifo<Signalled>,
+}
+
+/// All parts. Each fence has the list of its applied updates, its starting value first.
+#[derive(Debug, Drop)]
+pub struct Parts {
+    pub lists: Lists,
+    pub seats: Seq<Seat>,
+    pub fences: Seq<Room<u64>>,
+    pub held: Seq<Held>,
+}
+
+impl Parts {
+    /// The parts of a world before any call.
+    pub fn new(alloc: Global, world: &World) -> Result<Parts, Memory>
+        ensures lists { IfOk result (λ parts. parts.lists ≡ map (λ _. declared_list) world.now.lists) }
+        ensures seats { IfOk result (λ parts. parts.seats ≡ map (λ _. opening_seat) world.now.scripts) }
+        ensures fences { IfOk result (λ parts. map updates_in parts.fences ≡ map (λ v. v ∷ []) world.now.fences) }
+        ensures held { IfOk result (λ parts. map queued parts.held ≡ map (λ _. no_queue) world.now.queues) }
+    {
+        let lists = Lists::new(alloc, world)?;
+        let seats = opening_seats(alloc, world.scripts.as_slice())?;
+        let fences = starting_fences(alloc, world.fences.as_slice())?;
+        let held = empty_queues(alloc, world.queues.as_slice())?;
+        Ok(Parts {
+            lists,
+            seats,
+            fences,
+            held,
+        })
+    }
+}
+
+/// A place for each thread, before its first call.
+#[tactic(auto, using(dx_base::proofs::Lists::same_for_more))]
+fn opening_seats(alloc: Global, scripts: &[Seq<Call>]) -> Result<Seq<Seat>, Memory>
+    ensures { IfOk result (λ seats. seats ≡ map (λ _. opening_seat) scripts.now) }
+{
+    let mut seats = Seq::new(alloc);
+    for script in scripts {
+        let _calls = script.len();
+        seats.push(OPENING_SEAT)?;
+    }
+    Ok(seats)
+}
+
+/// The updates of each fence, of which the first is its starting value.
+fn starting_fences(alloc: Global, values: &[u64]) -> Result<Seq<Room<u64>>, Memory>
+    ensures { IfOk result (λ fences. map updates_in fences ≡ map (λ v. v ∷ []) values.now) }
+{
+    let mut fences = Seq::new(alloc);
+    for value in values {
+        fences.push(updates_from(alloc, *value)?)?;
+    }
+    Ok(fences)
+}
+
+/// The updates of a fence that has its starting value alone.
+fn updates_from(alloc: Global, value: u64) -> Result<Room<u64>, Memory>
+    ensures { IfOk result (λ updates. updates.items ≡ value ∷ []) }
+{
+    let mut updates = Room::new(alloc);
+    updates.reserve()?;
+    updates.push_reserved(value);
+    Ok(updates)
+}
+
+/// A queue without operations, for each queue.
+#[tactic(auto, using(dx_base::proofs::Lists::same_for_more))]
+fn empty_queues(alloc: Global, queues: &[ListType]) -> Result<Seq<Held>, Memory>
+    ensures { IfOk result (λ held. map queued held ≡ map (λ _. no_queue) queues.now) }
+{
+    let mut held = Seq::new(alloc);
+    for queue in queues {
+        let _type = *queue;
+        held.push(empty_queue(alloc))?;
+    }
+    Ok(held)
+}
+
+/// A queue without operations.
+fn empty_queue(alloc: Global) -> Held
+    ensures { queued result ≡ no_queue }
+{
+    Held {
+        operations: Fifo::new(alloc),
+        submitted: 0,
+        last_signal: 0,
+        signals: Fifo::new(alloc),
+    }
+}
+
+/// Puts an operation behind those of a queue. Refused for memory, the queues stay.
+#[tactic(auto, using(dx_base::proofs::Lists::map_write, dx_base::proofs::Lists::map_write_same))]
+pub(crate) fn push_operation(held: &mut Seq<Held>, queue: QueueId, operation: Operation) -> Result<(), Memory>
+    requires { queue.0 < length held.old }
+    ensures ok { OnOk result (map queued held.new ≡ changed_at (with_operation operation) queue.0 (map queued held.old)) }
+    ensures same { OnErr result (map queued held.new ≡ map queued held.old) }
+{
+    held.at_mut(queue.0 as usize).operations.push(operation)
+}
+
+/// The wait of a thread after a call: `hostwait` begins one, whose place is that of the last update.
+pub(crate) fn armed_by(fences: &Seq<Room<u64>>, call: &Call, waits: Option<Armed>) -> Option<Armed>
+    ensures { result ≡ armed_after (map updates_in fences.now) call.now waits }
+{
+    match call {
+        Call::HostWait { fence, value } => Some(Armed {
+            fence: *fence,
+            value: *value,
+            since: last_place(fences, *fence),
+        }),
+        Call::Recording { .. } => waits,
+        Call::Close { .. } => waits,
+        Call::Reset { .. } => waits,
+        Call::Execute { .. } => waits,
+        Call::Signal { .. } => waits,
+        Call::Write { .. } => waits,
+        Call::Read { .. } => waits,
+    }
+}
+
+/// The place of the last update of a fence.
+#[tactic(auto, using(crate::proofs::Updates::updates_of_none, crate::proofs::Updates::updates_of_some))]
+fn last_place(fences: &Seq<Room<u64>>, fence: FenceId) -> usize
+    ensures { result ≡ length (updates_at (map updates_in fences.now) fence.0) - 1 }
+{
+    match fences.get(fence.0 as usize) {
+        Some(updates) => updates.len().saturating_sub(1),
+        None => 0,
+    }
+}
+
+/// Whether a wait is met: the update that was current at its call, or a later one, is at least its value.
+#[tactic(auto, using(crate::proofs::Updates::updates_of_none, crate::proofs::Updates::updates_of_some))]
+pub(crate) fn is_met_by(fences: &Seq<Room<u64>>, armed: Armed) -> bool
+    ensures { result ≡ met_by (map updates_in fences.now) armed }
+{
+    match fences.get(armed.fence.0 as usize) {
+        Some(updates) => suffices_from(updates.as_slice(), armed.since, armed.value),
+        None => suffices_from(&[], armed.since, armed.value),
+    }
+}
+
+/// Whether an update from that place on is at least the value.
+fn suffices_from(updates: &[u64], since: usize, value: u64) -> bool
+    ensures { result ≡ is_met updates.now since value }
+{
+    if since > updates.len() {
+        return false;
+    }
+    let (_, later) = updates.split_at(since);
+    later.iter().any(|update| *update >= value)
 }

@@ -1,0 +1,148 @@
+-- What contracts see of the system's parts, and how each kind of step changes them.
+use Rattle.std.specs.Prelude.{ℕ, ◌≡◌, ◌+◌, ◌-◌, ◌==◌, nat_lt, List, [], ◌∷◌, ◌++◌, length, map, drop, slice_get, slice_index_or, Option, Some, None, Bool, true, false, if◌then◌else◌}
+use Rattle.dx_base.specs.Lists.{changed_at}
+use Rattle.dx_base.specs.Roomy.{Roomy}
+use Rattle.dx_base.specs.declared.hresult.Hresult.{Hresult}
+use Rattle.d3d_machine.specs.declared.world.World.{World}
+use Rattle.d3d_machine.specs.declared.calls.Call.{Call}
+use Rattle.d3d_machine.specs.declared.calls.Call.TheVariants as call
+use Rattle.d3d_machine.specs.declared.calls.Reply.{Reply}
+use Rattle.d3d_machine.specs.declared.events.Listed.{Listed}
+use Rattle.d3d_machine.specs.declared.events.Operation.{Operation}
+use Rattle.d3d_machine.specs.declared.events.Operation.TheVariants as operation
+use Rattle.d3d_machine.specs.State.{Desk}
+use Rattle.d3d_machine.specs.Replies.{refusal, reply_or, good_reply}
+use Rattle.d3d_machine.specs.Effects.{gathered, desk_or, effect, after_refused, memory_or, written}
+use Rattle.d3d_machine.specs.Fences.{is_met}
+use Rattle.vk_port.specs.VkState.{VkState}
+use Rattle.sys_core.specs.declared.parts.Armed.{Armed}
+use Rattle.sys_core.specs.declared.parts.Seat.{Seat}
+use Rattle.sys_core.specs.declared.parts.Signalled.{Signalled}
+use Rattle.sys_core.specs.declared.parts.Held.{Held}
+
+-- a queue: its operations that are not submitted, how many are, the last submitted signal's number, and the
+-- submitted signals that have not completed
+pub record Queued : Type 0 where
+  pub operations : List Operation
+  pub submitted : ℕ
+  pub last_signal : ℕ
+  pub signals : List Signalled
+
+-- a queue without operations
+abbrev pub no_queue : Queued
+no_queue = record { operations = []; submitted = 0; last_signal = 0; signals = [] }
+
+-- a thread before its first call
+abbrev pub opening_seat : Seat
+opening_seat = record { made = 0; waits = None }
+
+-- a held queue without its room
+abbrev pub queued : Held → Queued
+queued x = record { operations = x.operations.items; submitted = x.submitted; last_signal = x.last_signal; signals = x.signals.items }
+
+-- the applied updates of a fence, without room
+abbrev pub updates_in : Roomy ℕ → List ℕ
+updates_in r = r.items
+
+-- a desk that has these lists and nothing else
+abbrev pub desk_of : List Listed → Desk
+desk_of lists = record { fences = []; called = []; lists = lists; threads = [] }
+
+-- the reply of a call, by the lists and the device's words
+abbrev pub reply_by : World → List Listed → VkState → Call → Reply
+reply_by w lists v c = reply_or (refusal w (desk_of lists) c) (good_reply v.words c)
+
+-- the lists after a call
+abbrev pub lists_by : World → List Listed → Call → List Listed
+lists_by w lists c = (desk_or (refusal w (desk_of lists) c) (effect w (desk_of lists) 0 c) (after_refused (desk_of lists) c)).lists
+
+-- the device after a call: a host write that is not refused stores its words
+abbrev pub device_by : World → List Listed → VkState → Call → VkState
+device_by w lists v c = record v { words = memory_or (refusal w (desk_of lists) c) (written c v.words) v.words }
+
+-- the queue with one more operation
+abbrev pub with_operation : Operation → Queued → Queued
+with_operation o x = record x { operations = x.operations ++ o ∷ [] }
+
+abbrev pub pushes : List Listed → Call → List Queued → List Queued
+pushes lists (call.Recording l what) held = held
+pushes lists (call.Close l) held = held
+pushes lists (call.Reset l a) held = held
+pushes lists (call.Execute q ls) held = changed_at (with_operation (operation.Execute (gathered lists (map (λ l. l.0) ls)))) q.0 held
+pushes lists (call.Signal q f v) held = changed_at (with_operation (operation.Signal f v)) q.0 held
+pushes lists (call.HostWait f v) held = held
+pushes lists (call.Write b o ws) held = held
+pushes lists (call.Read b o n) held = held
+
+abbrev pub held_or : Option Hresult → List Queued → List Queued → List Queued
+held_or None good bad = good
+held_or (Some e) good bad = bad
+
+-- the queues after a call
+abbrev pub held_by : World → List Listed → Call → List Queued → List Queued
+held_by w lists c held = held_or (refusal w (desk_of lists) c) (pushes lists c held) held
+
+-- the applied updates of a fence
+abbrev pub updates_at : List (List ℕ) → ℕ → List ℕ
+updates_at fences f = slice_index_or fences f []
+
+-- the wait of a thread after a call
+abbrev pub armed_after : List (List ℕ) → Call → Option Armed → Option Armed
+armed_after fences (call.Recording l what) o = o
+armed_after fences (call.Close l) o = o
+armed_after fences (call.Reset l a) o = o
+armed_after fences (call.Execute q ls) o = o
+armed_after fences (call.Signal q f v) o = o
+armed_after fences (call.HostWait f v) o = Some (record { fence = f; value = v; since = length (updates_at fences f.0) - 1 })
+armed_after fences (call.Write b n ws) o = o
+armed_after fences (call.Read b n k) o = o
+
+-- the place of a thread after a call
+abbrev pub seat_after : List (List ℕ) → Call → Seat → Seat
+seat_after fences c s = record { made = s.made + 1; waits = armed_after fences c s.waits }
+
+-- the place of a thread that goes on behind its wait
+abbrev pub woken_seat : Seat → Seat
+woken_seat s = record s { waits = None }
+
+-- a thread's wait is met
+abbrev pub is_met_by : List (List ℕ) → Armed → Bool
+is_met_by fences a = is_met (updates_at fences a.fence.0) a.since a.value
+
+-- the number of the last signal, when one more operation comes behind
+abbrev pub last_with : ℕ → ℕ → Operation → ℕ
+last_with n found (operation.Execute cs) = found
+last_with n found (operation.Signal f v) = n
+
+-- the signals of one operation
+abbrev pub signal_of : ℕ → Operation → List Signalled
+signal_of n (operation.Execute cs) = []
+signal_of n (operation.Signal f v) = (record { number = n; fence = f; value = v }) ∷ []
+
+-- a queue whose oldest operation is submitted
+abbrev pub submitted_one : Operation → Queued → Queued
+submitted_one o x = record {
+  operations = drop 1 x.operations;
+  submitted = x.submitted + 1;
+  last_signal = last_with (x.submitted + 1) x.last_signal o;
+  signals = x.signals ++ signal_of (x.submitted + 1) o;
+}
+
+-- the submitted signals when the oldest operation has completed
+abbrev pub without_first : Operation → List Signalled → List Signalled
+without_first (operation.Execute cs) xs = xs
+without_first (operation.Signal f v) xs = drop 1 xs
+
+-- the first submitted signal, where its operation has that number
+abbrev pub signal_at : ℕ → Queued → Option Signalled
+signal_at n x = elim (slice_get x.signals 0) [ None ↦ None | Some s ↦ if (s.number == n) then Some s else None ]
+
+-- the queue, without its first submitted signal where there is one of that number
+abbrev pub without : Option Signalled → Queued → Queued
+without None x = x
+without (Some s) x = record x { signals = drop 1 x.signals }
+
+-- the fences' updates when that signal has completed
+abbrev pub updated_by : Option Signalled → List (List ℕ) → List (List ℕ)
+updated_by None fences = fences
+updated_by (Some s) fences = changed_at (λ us. us ++ s.value ∷ []) s.fence.0 fences
