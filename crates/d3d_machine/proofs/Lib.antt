@@ -1,3 +1,5 @@
 pub mod Recorders
 pub mod Gathered
 pub mod Shape
+pub mod Runs
+pub mod Places
