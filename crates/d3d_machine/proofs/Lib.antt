@@ -3,3 +3,4 @@ pub mod Gathered
 pub mod Shape
 pub mod Runs
 pub mod Places
+pub mod Marks
