@@ -4,3 +4,4 @@ pub mod Shape
 pub mod Runs
 pub mod Places
 pub mod Marks
+pub mod Waits

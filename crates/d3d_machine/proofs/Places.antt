@@ -130,7 +130,7 @@ length_either (Some e) good bad n g b = b
 pub length_called : (w : World) (d : Desk) (u : ℕ) (c : Call) → length (desk_or (refusal w d c) (effect w d u c) (after_refused d c)).threads ≡ length d.threads
 length_called w d u c = length_either (refusal w d c) (effect w d u c) (after_refused d c) (length d.threads) (length_effect w d u c) (ap length (refused_threads d c))
 
-abbrev one_more : Place → Place
+abbrev pub one_more : Place → Place
 one_more p = record p { made = p.made + 1 }
 
 made_call : (w : World) (d : Desk) (u : ThreadId) (c : Call) (r : Reply) (t : ℕ) → u.0 < length d.threads → (u.0 ≡ t) ⊎ (u.0 ≡ t → ⊥) →
