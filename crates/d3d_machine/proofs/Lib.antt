@@ -5,3 +5,5 @@ pub mod Runs
 pub mod Places
 pub mod Marks
 pub mod Waits
+pub mod Named
+pub mod Marking

@@ -55,7 +55,7 @@ other_call w d u c t n =
     ∙ either_place (refusal w d c) (effect w d u c) (after_refused d c) t (place_of d t)
         (effect_other w d u c t n) (ap (λ ps. place_in ps t) (refused_threads d c))
 
-waits_mapped : (f v : ℕ) (ps : List Place) (t : ℕ) → (place_in (map (marked_place f v) ps) t).waits ≡ marked_option f v (place_in ps t).waits
+pub waits_mapped : (f v : ℕ) (ps : List Place) (t : ℕ) → (place_in (map (marked_place f v) ps) t).waits ≡ marked_option f v (place_in ps t).waits
 waits_mapped f v [] t = refl
 waits_mapped f v (p ∷ ps) zero = refl
 waits_mapped f v (p ∷ ps) (suc t) = waits_mapped f v ps t
@@ -124,7 +124,7 @@ wait_goes_on w h e t f v since may sleeps l now =
     ∙ waits_on SameButWords w (state_after w h) e t (waiting_at w h f v since) now may sleeps
     ∙ ap (λ y. Some y) (wait_more w h e f v since l)
 
-woken_waits : (ps : List Place) (t : ℕ) → (place_in (changed_at (λ p. record p { waits = None }) t ps) t).waits ≡ None
+pub woken_waits : (ps : List Place) (t : ℕ) → (place_in (changed_at (λ p. record p { waits = None }) t ps) t).waits ≡ None
 woken_waits [] t = refl
 woken_waits (p ∷ ps) zero = refl
 woken_waits (p ∷ ps) (suc t) = woken_waits ps t
