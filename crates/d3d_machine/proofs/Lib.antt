@@ -7,3 +7,4 @@ pub mod Marks
 pub mod Waits
 pub mod Named
 pub mod Marking
+pub mod Short
