@@ -8,3 +8,4 @@ pub mod Waits
 pub mod Named
 pub mod Marking
 pub mod Short
+pub mod CallsOnLists
