@@ -2,3 +2,11 @@ pub mod Operations
 pub mod Recorders
 pub mod Gathered
 pub mod Shape
+pub mod Runs
+pub mod Places
+pub mod Marks
+pub mod Waits
+pub mod Named
+pub mod Marking
+pub mod Short
+pub mod CallsOnLists

@@ -9,3 +9,4 @@ pub mod Recorders
 pub mod Lists
 pub mod Checks
 pub mod Shape
+pub mod Marks
