@@ -3,3 +3,4 @@ pub mod Holding
 pub mod Seating
 pub mod Lowered
 pub mod Updates
+pub mod Inside

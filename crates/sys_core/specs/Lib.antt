@@ -4,3 +4,5 @@ pub mod Steps
 pub mod Parts
 pub mod Batches
 pub mod Consistent
+pub mod FaultOf
+pub mod Serving

@@ -1,10 +1,11 @@
 //! The whole system: it serves the calls of threads, lowers operations to batches, and runs a device.
 #![tactic(auto)]
 
+mod faults;
 mod lowering;
 mod parts;
 mod serve;
 
+pub use faults::SysFault;
 pub use lowering::{batch_of, plan_of};
 pub use parts::{Armed, Held, Parts, Seat, Signalled};
-pub use serve::SysFault;
