@@ -4,3 +4,4 @@ pub mod Seating
 pub mod Lowered
 pub mod Updates
 pub mod Inside
+pub mod Serving

@@ -12,7 +12,7 @@ use Rattle.d3d_machine.specs.declared.events.Operation.{Operation}
 use Rattle.d3d_machine.specs.declared.events.Operation.TheVariants as operation
 use Rattle.d3d_machine.specs.State.{Desk}
 use Rattle.d3d_machine.specs.Replies.{refusal, reply_or, good_reply}
-use Rattle.d3d_machine.specs.Effects.{gathered, desk_or, effect, after_refused, memory_or, written}
+use Rattle.d3d_machine.specs.Effects.{gathered, desk_after_call, memory_or, written}
 use Rattle.d3d_machine.specs.Fences.{is_met}
 use Rattle.vk_port.specs.VkState.{VkState}
 use Rattle.sys_core.specs.declared.parts.Armed.{Armed}
@@ -54,7 +54,7 @@ reply_by w lists v c = reply_or (refusal w (desk_of lists) c) (good_reply v.word
 
 -- the lists after a call
 abbrev pub lists_by : World → List Listed → Call → List Listed
-lists_by w lists c = (desk_or (refusal w (desk_of lists) c) (effect w (desk_of lists) 0 c) (after_refused (desk_of lists) c)).lists
+lists_by w lists c = (desk_after_call w (desk_of lists) 0 c).lists
 
 -- the device after a call: a host write that is not refused stores its words
 abbrev pub device_by : World → List Listed → VkState → Call → VkState

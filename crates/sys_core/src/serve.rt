@@ -2,13 +2,14 @@
 
 ghost use Rattle.std.specs.Prelude.{◌≡◌, ◌<◌, ◌≤◌, ◌/◌, map, length, true, Some, None, IfOk, OnOk, OnErr, IsSome};
 ghost use Rattle.dx_base.specs.Lists.{changed_at, put, range_of};
-ghost use Rattle.d3d_machine.specs.declared.calls.Call.TheVariants.{Execute as execute_call, Signal as signal_call};
+ghost use Rattle.std.specs.Result.{result_err};
+ghost use Rattle.d3d_machine.specs.declared.calls.Call.TheVariants.{Recording as recording_call, Close as close_call, Reset as reset_call, Execute as execute_call, Signal as signal_call, Write as write_call, Read as read_call};
 ghost use Rattle.d3d_machine.specs.declared.calls.Reply.TheVariants.{Done as done, Words as words_reply};
 ghost use Rattle.d3d_machine.specs.World.{is_named};
 ghost use Rattle.d3d_machine.specs.State.{words_at};
 ghost use Rattle.d3d_machine.specs.Replies.{reply_or};
 ghost use Rattle.d3d_machine.specs.Effects.{memory_or};
-ghost use Rattle.d3d_machine.specs.Lists.{execute_refusal};
+ghost use Rattle.d3d_machine.specs.Lists.{record_refusal, close_refusal, reset_refusal, execute_refusal};
 ghost use Rattle.d3d_machine.specs.Checks.{write_refusal as refusal_of_write, read_refusal as refusal_of_read};
 ghost use Rattle.vk_port.specs.Offers.{IsInside};
 ghost use Rattle.vk_port.specs.VkState.{VkState};
@@ -17,8 +18,8 @@ ghost use Rattle.sys_core.specs.Serving.{HasBuffers, Serves, StaysParts, HasCaus
 
 use crate::faults::SysFault;
 use crate::parts::{Parts, push_operation};
-use d3d_machine::{Call, Operation, Reply, World, read_refusal, write_refusal};
-use dx_base::{FenceId, Hresult, ListId, Memory, QueueId, ResourceId, Seq};
+use d3d_machine::{Call, Lists, Operation, Record, Reply, World, read_refusal, write_refusal};
+use dx_base::{AllocatorId, FenceId, Hresult, ListId, Memory, QueueId, ResourceId, Seq};
 use std::alloc::Global;
 use vk_port::VkDevice;
 
@@ -54,4 +55,145 @@ fn read_words<D: VkDevice>(world: &World, device: &mut D, buffer: ResourceId, of
 {
     let words = device.host_read(buffer.0, (offset / 4) as u32, (bytes / 4) as u32)?;
     Ok(Reply::Words(Seq::from_vec(words)))
+}
+
+/// Serves a call that writes a buffer.
+fn serve_write<D: VkDevice>(world: &World, lists: &Lists, device: &mut D, buffer: ResourceId, offset: u64, words: &Seq<u32>) -> Result<Reply, SysFault>
+    requires plan { IsSome (D.plan_of device.old) }
+    requires buffers { HasBuffers world.now (D.state device.old) }
+    ensures reply { IfOk result (λ reply. reply ≡ reply_by world.now lists.now (D.state device.old) (write_call buffer offset words.now)) }
+    ensures state { OnOk result (D.state device.new ≡ device_by world.now lists.now (D.state device.old) (write_call buffer offset words.now)) }
+    ensures same { OnErr result (D.state device.new ≡ D.state device.old) }
+    ensures plan { D.plan_of device.new ≡ D.plan_of device.old }
+    ensures rest { D.rest_of device.new ≡ D.rest_of device.old }
+    ensures faults { D.faults device.old ≤ D.faults device.new }
+    ensures cause { HasCause (D.faults device.old) (D.faults device.new) result }
+{
+    let _lists = lists;
+    match write_refusal(world, buffer, offset, words.len()) {
+        Some(error) => Ok(Reply::Error(error)),
+        None => {
+            write_words(world, device, buffer, offset, words)?;
+            Ok(Reply::Done)
+        }
+    }
+}
+
+/// Serves a call that reads a buffer.
+fn serve_read<D: VkDevice>(world: &World, lists: &Lists, device: &mut D, buffer: ResourceId, offset: u64, bytes: u64) -> Result<Reply, SysFault>
+    requires plan { IsSome (D.plan_of device.old) }
+    requires buffers { HasBuffers world.now (D.state device.old) }
+    ensures reply { IfOk result (λ reply. reply ≡ reply_by world.now lists.now (D.state device.old) (read_call buffer offset bytes)) }
+    ensures state { D.state device.new ≡ D.state device.old }
+    ensures plan { D.plan_of device.new ≡ D.plan_of device.old }
+    ensures rest { D.rest_of device.new ≡ D.rest_of device.old }
+    ensures faults { D.faults device.old ≤ D.faults device.new }
+    ensures cause { HasCause (D.faults device.old) (D.faults device.new) result }
+{
+    let _lists = lists;
+    match read_refusal(world, buffer, offset, bytes) {
+        Some(error) => Ok(Reply::Error(error)),
+        None => read_words(world, device, buffer, offset, bytes),
+    }
+}
+
+/// Serves a call that executes lists on a queue: one operation more, with the lists' commands in order.
+#[tactic(auto, using(crate::proofs::Serving::execute_lists_by))]
+fn serve_execute(alloc: Global, world: &World, parts: &mut Parts, queue: QueueId, lists: &Seq<ListId>) -> Result<Reply, Memory>
+    requires { queue.0 < length parts.old.held }
+    ensures reply { IfOk result (λ reply. reply ≡ reply_or (execute_refusal world.now parts.old.lists queue.0 lists.now) done) }
+    ensures parts { OnOk result (Serves world.now (execute_call queue lists.now) parts.old parts.new) }
+    ensures same { OnErr result (StaysParts parts.old parts.new) }
+{
+    match parts.lists.gather(alloc, world, queue, lists.as_slice())? {
+        Err(error) => Ok(Reply::Error(error)),
+        Ok(commands) => {
+            push_operation(&mut parts.held, queue, Operation::Execute { commands })?;
+            Ok(Reply::Done)
+        }
+    }
+}
+
+/// Serves a call that signals a fence on a queue: one operation more.
+fn serve_signal(world: &World, parts: &mut Parts, queue: QueueId, fence: FenceId, value: u64) -> Result<Reply, Memory>
+    requires { queue.0 < length parts.old.held }
+    ensures reply { IfOk result (λ reply. reply ≡ done) }
+    ensures parts { OnOk result (Serves world.now (signal_call queue fence value) parts.old parts.new) }
+    ensures same { OnErr result (StaysParts parts.old parts.new) }
+{
+    let _world = world;
+    push_operation(&mut parts.held, queue, Operation::Signal { fence, value })?;
+    Ok(Reply::Done)
+}
+
+/// What a call answers that gives nothing but an error.
+fn answered(answer: Result<(), Hresult>) -> Reply
+    ensures { result ≡ reply_or (result_err answer) done }
+{
+    match answer {
+        Ok(()) => Reply::Done,
+        Err(error) => Reply::Error(error),
+    }
+}
+
+/// Serves a recording call.
+#[tactic(auto, using(crate::proofs::Serving::record_lists_by))]
+fn serve_recording(world: &World, parts: &mut Parts, list: ListId, what: Record) -> Result<Reply, Memory>
+    requires { list.0 < length parts.old.lists }
+    ensures reply { IfOk result (λ reply. reply ≡ reply_or (record_refusal parts.old.lists list.0) done) }
+    ensures parts { OnOk result (Serves world.now (recording_call list what) parts.old parts.new) }
+    ensures same { OnErr result (StaysParts parts.old parts.new) }
+{
+    parts.lists.record(world, list, what)
+}
+
+/// Serves a call that closes a list.
+#[tactic(auto, using(crate::proofs::Serving::close_lists_by))]
+fn serve_close(world: &World, parts: &mut Parts, list: ListId) -> Reply
+    requires { list.0 < length parts.old.lists }
+    ensures reply { result ≡ reply_or (close_refusal parts.old.lists list.0) done }
+    ensures parts { Serves world.now (close_call list) parts.old parts.new }
+{
+    let _world = world;
+    answered(parts.lists.close(list))
+}
+
+/// Serves a call that resets a list.
+#[tactic(auto, using(crate::proofs::Serving::reset_lists_by))]
+fn serve_reset(world: &World, parts: &mut Parts, list: ListId, allocator: AllocatorId) -> Reply
+    requires { list.0 < length parts.old.lists }
+    ensures reply { result ≡ reply_or (reset_refusal world.now parts.old.lists list.0 allocator.0) done }
+    ensures parts { Serves world.now (reset_call list allocator) parts.old parts.new }
+{
+    answered(parts.lists.reset(world, list, allocator))
+}
+
+/// Serves a call of a thread that does not wait. The beginning of a wait is left to its caller.
+#[tactic(auto, using(crate::proofs::Serving::device_stays))]
+pub(crate) fn serve<D: VkDevice>(alloc: Global, world: &World, parts: &mut Parts, device: &mut D, call: &Call) -> Result<Reply, SysFault>
+    requires plan { IsSome (D.plan_of device.old) }
+    requires buffers { HasBuffers world.now (D.state device.old) }
+    requires queues { length parts.old.held ≡ length world.now.queues }
+    requires lists { length parts.old.lists ≡ length world.now.lists }
+    requires named { is_named world.now call.now ≡ true }
+    ensures reply { IfOk result (λ reply. reply ≡ reply_by world.now parts.old.lists (D.state device.old) call.now) }
+    ensures parts { OnOk result (Serves world.now call.now parts.old parts.new) }
+    ensures state { OnOk result (D.state device.new ≡ device_by world.now parts.old.lists (D.state device.old) call.now) }
+    ensures same_parts { OnErr result (StaysParts parts.old parts.new) }
+    ensures same_state { OnErr result (D.state device.new ≡ D.state device.old) }
+    ensures plan { D.plan_of device.new ≡ D.plan_of device.old }
+    ensures rest { D.rest_of device.new ≡ D.rest_of device.old }
+    ensures faults { D.faults device.old ≤ D.faults device.new }
+    ensures cause { HasCause (D.faults device.old) (D.faults device.new) result }
+{
+    match call {
+        Call::Recording { list, what } => Ok(serve_recording(world, parts, *list, *what)?),
+        Call::Close { list } => Ok(serve_close(world, parts, *list)),
+        Call::Reset { list, allocator } => Ok(serve_reset(world, parts, *list, *allocator)),
+        Call::Execute { queue, lists } => Ok(serve_execute(alloc, world, parts, *queue, lists)?),
+        Call::Signal { queue, fence, value } => Ok(serve_signal(world, parts, *queue, *fence, *value)?),
+        Call::HostWait { .. } => Ok(Reply::Done),
+        Call::Write { buffer, offset, words } => serve_write(world, &parts.lists, device, *buffer, *offset, words),
+        Call::Read { buffer, offset, bytes } => serve_read(world, &parts.lists, device, *buffer, *offset, *bytes),
+    }
 }
