@@ -10,3 +10,5 @@ pub mod VkSteps
 pub mod Valid
 pub mod Causes
 pub mod Offers
+pub mod Found
+pub mod Ahead

@@ -1,10 +1,13 @@
 //! The port to a Vulkan device: its types, its contract, and a plain device that meets it.
 #![tactic(auto)]
 
+mod ahead;
 mod commands;
 mod device;
 mod faults;
+mod find;
 mod flags;
+mod found;
 mod lanes;
 mod plan;
 mod sets;

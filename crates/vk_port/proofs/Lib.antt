@@ -1,0 +1,5 @@
+pub mod Lists
+pub mod Finding
+pub mod Bits
+pub mod Summing
+pub mod Searching
