@@ -1,5 +1,5 @@
 -- A search through a list that is put together from lists.
-use Rattle.std.proofs.Common.{◌≡◌, ℕ, zero, suc, ◌+◌, ◌<◌, List, [], ◌∷◌, ◌++◌, length, drop, refl, sym, ap, Some, slice_get}
+use Rattle.std.proofs.Common.{◌≡◌, ℕ, zero, suc, ◌+◌, ◌<◌, List, [], ◌∷◌, ◌++◌, length, drop, refl, sym, ap, arith, true≢false, Bool, true, false, Some, slice_get}
 use Rattle.vk_port.specs.declared.found.Found.{Found}
 use Rattle.vk_port.specs.declared.found.Found.TheVariants.{At, Left}
 use Rattle.vk_port.specs.declared.steps.Stepped.{Stepped}
@@ -19,6 +19,33 @@ found_first xs ys k r s start here = rw (start, found_append xs ys k, ← here) 
 -- the search goes on in the second of two lists
 pub found_second : (xs ys : List Stepped) (k : ℕ) (r : Found) (left : ℕ) → r ≡ found (xs ++ ys) k → Left left ≡ found xs k → r ≡ found ys left
 found_second xs ys k r left start here = rw (start, found_append xs ys k, ← here) refl
+
+-- a found step is no place that is left
+abbrev is_at : Found → Bool
+is_at (At x) = true
+is_at (Left k) = false
+
+-- the step of a search, or another
+abbrev step_of : Stepped → Found → Stepped
+step_of other (At x) = x
+step_of other (Left k) = other
+
+-- the place that a search left, or 0
+abbrev left_of : Found → ℕ
+left_of (At x) = 0
+left_of (Left k) = k
+
+-- what a search found stands at that place
+pub found_at : (xs : List Stepped) (k : ℕ) (s : Stepped) → At s ≡ found xs k → slice_get xs k ≡ Some s
+found_at [] k s is = absurd (true≢false (ap is_at is))
+found_at (x ∷ xs) zero s is = ap (λ y. Some y) (sym (ap (step_of s) is))
+found_at (x ∷ xs) (suc k) s is = found_at xs k s is
+
+-- a search that found nothing went through the whole list
+pub found_left : (xs : List Stepped) (k left : ℕ) → Left left ≡ found xs k → k ≡ length xs + left
+found_left [] k left is = let same : left ≡ k = ap left_of is in omega (arith, same)
+found_left (x ∷ xs) zero left is = absurd (true≢false (sym (ap is_at is)))
+found_left (x ∷ xs) (suc k) left is = let rest : k ≡ length xs + left = found_left xs k left is in omega (arith, rest)
 
 module _ {L : Type 0} (part : ℕ → L → List Stepped) (whole : ℕ → List L → List Stepped)
   (turn : (q : ℕ) (l : L) (ls : List L) → whole q (l ∷ ls) ≡ part q l ++ whole (q + 1) ls) where

@@ -3,3 +3,7 @@ pub mod Finding
 pub mod Bits
 pub mod Summing
 pub mod Searching
+pub mod Walks
+pub mod Placing
+pub mod Setting
+pub mod Enabled

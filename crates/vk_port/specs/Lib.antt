@@ -12,3 +12,8 @@ pub mod Causes
 pub mod Offers
 pub mod Found
 pub mod Ahead
+pub mod Seen
+pub mod Lost
+pub mod Stored
+pub mod Tied
+pub mod Meaning

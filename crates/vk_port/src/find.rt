@@ -1,33 +1,16 @@
 //! The search for the step at a place among those that can be taken.
 
-ghost use Rattle.std.specs.Prelude.{◌≡◌, ◌<◌, ◌+◌, [], length, take, slice_index_or};
+ghost use Rattle.std.specs.Prelude.{◌≡◌, ◌<◌, ◌+◌, [], length, take};
 ghost use Rattle.vk_port.specs.Ahead.{batch_steps, lane_steps};
-ghost use Rattle.vk_port.specs.Enabled.{reached, ready_pass, passes, lane_commands, commands, all_done, ready_bump, bumps};
+ghost use Rattle.vk_port.specs.Enabled.{ready_pass, passes, lane_commands, commands, all_done, ready_bump, bumps};
 ghost use Rattle.vk_port.specs.Found.{found};
 
 use crate::ahead::Ahead;
 use crate::found::{Found, find_if};
 use crate::lanes::{Lane, Running};
 use crate::steps::Stepped;
+use crate::timelines::are_reached;
 use dx_base::Seq;
-
-/// The value of a timeline; 0 for one that is not there.
-pub fn value_of(timelines: &Seq<u64>, timeline: u32) -> u64
-    ensures { result ≡ slice_index_or timelines.now timeline 0 }
-{
-    if (timeline as usize) < timelines.len() {
-        *timelines.at(timeline as usize)
-    } else {
-        0
-    }
-}
-
-/// Whether each wait has its value reached.
-fn are_reached(timelines: &Seq<u64>, waits: &Seq<(u32, u64)>) -> bool
-    ensures { result ≡ reached timelines.now waits.now }
-{
-    waits.as_slice().iter().all(|wait| wait.1 <= value_of(timelines, wait.0))
-}
 
 /// Searches the pass of a lane's next batch.
 fn find_pass(timelines: &Seq<u64>, queue: u32, lane: &Lane, k: usize) -> Found

@@ -2,22 +2,30 @@
 #![tactic(auto)]
 
 mod ahead;
+mod calls;
 mod commands;
 mod device;
 mod faults;
 mod find;
 mod flags;
 mod found;
+mod kept;
 mod lanes;
+mod plain;
 mod plan;
+mod queues;
 mod sets;
 mod steps;
+mod store;
+mod timelines;
+mod words;
 
 pub use commands::{Batch, VkCommand};
 pub use device::VkDevice;
 pub use faults::DeviceFault;
 pub use flags::{Accesses, Stages};
 pub use lanes::{Lane, Running};
+pub use plain::PlainDevice;
 pub use plan::{DevicePlan, PlanBuffer};
 pub use sets::{NoSets, Sets};
 pub use steps::Stepped;
