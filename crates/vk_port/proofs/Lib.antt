@@ -7,3 +7,7 @@ pub mod Walks
 pub mod Placing
 pub mod Setting
 pub mod Enabled
+pub mod Changing
+pub mod Valid
+pub mod Falls
+pub mod Matching

@@ -17,3 +17,4 @@ pub mod Lost
 pub mod Stored
 pub mod Tied
 pub mod Meaning
+pub mod Laws
