@@ -1,6 +1,6 @@
 //! A `Vec` that contracts see as the list of its items.
 
-ghost use Rattle.std.specs.Prelude.{◌≡◌, ◌==◌, ◌<◌, [], ◌∷◌, ◌++◌, length, slice_get, slice_index_or, IfOk, OnOk, OnErr};
+ghost use Rattle.std.specs.Prelude.{◌≡◌, ◌==◌, ◌<◌, [], ◌∷◌, ◌++◌, length, drop, slice_get, slice_index_or, Some, IfOk, OnOk, OnErr};
 ghost use Rattle.std.specs.Option.{option_copied};
 ghost use Rattle.std.specs.Borrow.{sem};
 ghost use Rattle.std.specs.Cmp.Lexicographic.{pointwise, lists_per, lists_equiv};
@@ -89,6 +89,15 @@ impl<T> Seq<T> {
         ensures value { result.now ≡ slice_index_or self.old at result.now }
     {
         &mut self.items[at]
+    }
+
+    /// Takes the first item out.
+    pub fn take_first(&mut self) -> T
+        requires { 0 < length self.old }
+        ensures value { slice_get self.old 0 ≡ Some result }
+        ensures items { self.new ≡ drop 1 self.old }
+    {
+        self.items.remove(0)
     }
 
     pub fn as_mut_slice(&mut self) -> &mut [T]

@@ -80,8 +80,12 @@ abbrev pub started : Batch → Running
 started b = record { batch = b; done = replicate (length b.commands) false }
 
 -- a lane with one more batch
+abbrev pub with_batch : Running → Lane → Lane
+with_batch running lane = record lane { batches = lane.batches ++ running ∷ [] }
+
+-- a lane to which a batch was submitted
 abbrev pub lane_after_submit : Batch → Lane → Lane
-lane_after_submit b lane = record lane { batches = lane.batches ++ started b ∷ [] }
+lane_after_submit b lane = with_batch (started b) lane
 
 -- the state after a submission (Vulkan 1.3, 6.5)
 abbrev pub after_submit : VkState → Batch → VkState

@@ -10,3 +10,11 @@ pub mod VkSteps
 pub mod Valid
 pub mod Causes
 pub mod Offers
+pub mod Found
+pub mod Ahead
+pub mod Seen
+pub mod Lost
+pub mod Stored
+pub mod Tied
+pub mod Meaning
+pub mod Laws

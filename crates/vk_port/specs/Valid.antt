@@ -21,6 +21,7 @@ batch_of running = running.batch
 pub record IsLane (submitted : List Batch) (lane : Lane) : Type 0 where
   -- how many batches of the queue have ended
   pub finished : ℕ
+  pub ended : finished ≤ length submitted
   pub are_last : map batch_of lane.batches ≡ drop finished submitted
   pub passed : lane.passed ≤ length lane.batches
   pub marked : list_all is_marked lane.batches ≡ true

@@ -1,7 +1,10 @@
 //! The commands of a device, and the batches that bring them to a queue.
 
+ghost use Rattle.std.specs.Prelude.{◌≡◌, IfOk};
+
 use crate::flags::{Accesses, Stages};
-use dx_base::Seq;
+use dx_base::{Memory, Seq};
+use std::alloc::Global;
 
 /// A command of a command buffer. Buffers are named by their place in the plan; each `first` and each
 /// length is in words of 32 bits.
@@ -34,4 +37,19 @@ pub struct Batch {
     pub waits: Seq<(u32, u64)>,
     pub commands: Seq<VkCommand>,
     pub sets: Seq<(u32, u64)>,
+}
+
+impl Batch {
+    /// A copy of the batch.
+    pub fn copied(&self, alloc: Global) -> Result<Batch, Memory>
+        ensures { IfOk result (λ copy. copy ≡ self.now) }
+    {
+        Ok(Batch {
+            queue: self.queue,
+            number: self.number,
+            waits: Seq::from_slice(alloc, self.waits.as_slice())?,
+            commands: Seq::from_slice(alloc, self.commands.as_slice())?,
+            sets: Seq::from_slice(alloc, self.sets.as_slice())?,
+        })
+    }
 }

@@ -1,6 +1,7 @@
 //! Sets of pipeline stages and sets of memory accesses.
 
-ghost use Rattle.std.specs.Prelude.{⊤, [], ◌∷◌, codes};
+ghost use Rattle.std.specs.Prelude.{⊤, ◌≡◌, [], ◌∷◌, codes};
+ghost use Rattle.vk_port.specs.Stages.{whole, meets};
 
 use bitflags::{Flag, Flags, bitflag_items};
 
@@ -36,6 +37,22 @@ impl Flags for Stages {
 
     fn from_bits_retain(bits: u32) -> Stages {
         Stages(bits)
+    }
+}
+
+impl Stages {
+    /// The bits of the stages that the set stands for: ALL_COMMANDS is every stage but HOST.
+    pub fn whole(self) -> u32
+        ensures { result ≡ whole self }
+    {
+        if self.0 & 1 == 0 { self.0 } else { self.0 | 7 }
+    }
+
+    /// Whether two sets have a stage in common.
+    pub fn meets(self, other: Stages) -> bool
+        ensures { result ≡ meets self other }
+    {
+        self.whole() & other.whole() != 0
     }
 }
 

@@ -1,0 +1,26 @@
+-- Sets of stages that have nothing in common with another set.
+use Rattle.std.proofs.Common.{◌≡◌, ℕ, zero, suc, ◌≤◌, ◌<◌, ◌==◌, Bool, true, false, ◌&&◌, bit_and, bit_or, arith, refl, ap, min, max, sym}
+use Rattle.std.specs.Int.{bit_at}
+use Rattle.std.proofs.lemmas.Nat.Bits.{bit_at_and, bit_at_or, same_from_bits}
+use Rattle.std.proofs.lemmas.Nat.{le_or_l, le_or_r}
+use Rattle.std.proofs.Math.Dec.{eqb-suc-zero}
+use Rattle.std.specs.Int.Bits.{or_zero_l}
+
+-- what two sets have in common with a third
+pub and_over_or : (a b c : ℕ) → bit_and (bit_or a b) c ≡ bit_or (bit_and a c) (bit_and b c)
+and_over_or a b c = same_from_bits (bit_and (bit_or a b) c) (bit_or (bit_and a c) (bit_and b c)) (λ i.
+    rw (bit_at_and (bit_or a b) c i, bit_at_or a b i, bit_at_or (bit_and a c) (bit_and b c) i, bit_at_and a c i, bit_at_and b c i) (omega arith))
+
+-- a number above 0 is not 0
+not_zero : (a b : ℕ) → suc a ≤ b → (b == 0) ≡ false
+not_zero a zero h = absurd (omega (arith, h))
+not_zero a (suc b) h = eqb-suc-zero b
+
+-- a union is empty only where both sets are
+or_zero : (a b : ℕ) → (bit_or a b == 0) ≡ ((a == 0) && (b == 0))
+or_zero zero b = rw (or_zero_l b) refl
+or_zero (suc a) b = rw (not_zero a (bit_or (suc a) b) (le_or_l (suc a) b), eqb-suc-zero a) refl
+
+-- a union has nothing in common with a set only where neither part has
+pub or_apart : (a b c : ℕ) → (bit_and (bit_or a b) c == 0) ≡ ((bit_and a c == 0) && (bit_and b c == 0))
+or_apart a b c = rw (and_over_or a b c) (or_zero (bit_and a c) (bit_and b c))

@@ -1,0 +1,13 @@
+pub mod Lists
+pub mod Finding
+pub mod Bits
+pub mod Summing
+pub mod Searching
+pub mod Walks
+pub mod Placing
+pub mod Setting
+pub mod Enabled
+pub mod Changing
+pub mod Valid
+pub mod Falls
+pub mod Matching

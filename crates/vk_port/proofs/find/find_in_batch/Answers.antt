@@ -1,0 +1,28 @@
+-- Each turn searches one command that is not done.
+use Rattle.std.proofs.Common.{◌≡◌, ◌<◌, ◌+◌, ◌∙◌, length, arith, sym, ap}
+use Rattle.vk_port.specs.Found.{found}
+use Rattle.vk_port.proofs.Searching.{batch_ends, batch_goes_on}
+use Rattle.vk_port.proofs.Summing.{steps_skip, steps_end}
+use Rattle.vk_port.proofs.find.find_in_batch.Goals as goal
+
+pub loop-i-preserved-then-at : goal.loop-i-preserved-then-at
+loop-i-preserved-then-at c =
+    let within : c.loop-i.i < length c.args.running.now.batch.commands = omega arith in
+    let skip = steps_skip c.args.queue c.args.running.now.batch.number (c.loop-i.i + 1) c.loop-i.ahead c.args.running.now.batch.commands c.args.running.now.done c.loop-i.i c.at.result.now within c.at.ensures c.if-at.true in
+    c.loop-i.invariant ∙ ap (λ steps. found steps c.loop-i.left) skip
+
+pub returns-in-At : goal.returns-in-At
+returns-in-At c =
+    batch_ends c.args.queue c.args.running.now.batch.number (c.loop-i.i + 1) c.loop-i.ahead c.args.running.now.batch.commands c.args.running.now.done c.loop-i.i
+    c.at.result.now c.at-command.result.now c.at-command.ensures c.at.ensures c.if-at.false _ c.loop-i.left c.loop-i.invariant c.lets.result c.lets.ensures c.in-At.step c.in-At.ensures
+
+pub loop-i-preserved : goal.loop-i-preserved
+loop-i-preserved c =
+    batch_goes_on c.args.queue c.args.running.now.batch.number (c.loop-i.i + 1) c.loop-i.ahead c.args.running.now.batch.commands c.args.running.now.done c.loop-i.i
+    c.at.result.now c.at-command.result.now c.at-command.ensures c.at.ensures c.if-at.false _ c.loop-i.left c.loop-i.invariant c.lets.result c.lets.ensures c.in-Left.rest
+    c.with-ahead.result c.with-ahead.ensures c.in-Left.ensures
+
+pub returns : goal.returns
+returns c =
+    let end = steps_end c.args.queue c.args.running.now.batch.number (c.loop-i.i + 1) c.loop-i.ahead c.args.running.now.batch.commands c.args.running.now.done c.loop-i.i (omega arith) in
+    sym (c.loop-i.invariant ∙ ap (λ steps. found steps c.loop-i.left) end)

@@ -1,0 +1,6 @@
+-- It is a lemma.
+use Rattle.vk_port.proofs.Falls.{falls}
+use Rattle.vk_port.proofs.laws.each_step_leaves_fewer.Goals as goal
+
+pub returns : goal.returns
+returns c = falls

@@ -1,0 +1,68 @@
+//! What the commands that are not done hold back.
+
+ghost use Rattle.std.specs.Prelude.{◌≡◌};
+ghost use Rattle.vk_port.specs.Ahead.{no_ahead, with_command, lets, summary};
+ghost use Rattle.vk_port.specs.Enabled.{undone};
+
+use crate::commands::VkCommand;
+use crate::flags::Stages;
+use crate::lanes::Running;
+
+/// What some commands that are not done hold back, as bits of stages.
+#[derive(Clone, Copy, Debug, PartialEq, Eq)]
+pub struct Ahead {
+    /// The destination stages of their barriers.
+    pub to: u32,
+    /// The stages of those that are no barriers.
+    pub by: u32,
+}
+
+impl Ahead {
+    /// No commands.
+    pub fn none() -> Ahead
+        ensures { result ≡ no_ahead }
+    {
+        Ahead { to: 0, by: 0 }
+    }
+
+    /// One more command.
+    pub fn with(self, command: VkCommand) -> Ahead
+        ensures { result ≡ with_command self command }
+    {
+        match command {
+            VkCommand::Barrier { to, .. } => Ahead {
+                to: self.to | to.whole(),
+                by: self.by,
+            },
+            VkCommand::Copy { .. } => Ahead {
+                to: self.to,
+                by: self.by | Stages::COPY.whole(),
+            },
+        }
+    }
+
+    /// Whether the commands let a later one run.
+    pub fn lets(self, command: VkCommand) -> bool
+        ensures { result ≡ lets self command }
+    {
+        match command {
+            VkCommand::Barrier { from, .. } => (self.to | self.by) & from.whole() == 0,
+            VkCommand::Copy { .. } => self.to & Stages::COPY.whole() == 0,
+        }
+    }
+
+    /// The commands of a batch that are not done, too.
+    pub fn with_undone(self, running: &Running) -> Ahead
+        ensures { result ≡ summary self (undone running.now) }
+    {
+        let mut ahead = self;
+        let count = running.batch.commands.len().min(running.done.len());
+        for i in 0..count {
+            if *running.done.at(i) {
+                continue;
+            }
+            ahead = ahead.with(*running.batch.commands.at(i));
+        }
+        ahead
+    }
+}

@@ -1,0 +1,35 @@
+//! Laws of the Vulkan machine. The functions do nothing.
+
+ghost use Rattle.vk_port.specs.Laws.{EachMeans, EachFalls, SubmissionsAdd, StaysValid, StaysMatched};
+
+/// A step that can be taken means what it says: a pass is of a queue's next batch, whose waits are
+/// reached; a command is of a batch that has passed, and not done; a batch that ends is the first of its
+/// queue, has passed, and all its commands are done.
+pub fn each_step_means_what_it_says()
+    ensures { EachMeans }
+{
+}
+
+/// Each step that is taken leaves fewer steps.
+pub fn each_step_leaves_fewer()
+    ensures { EachFalls }
+{
+}
+
+/// A batch that is submitted adds a pass, an end, and a step for each of its commands.
+pub fn a_submission_adds_its_steps()
+    ensures { SubmissionsAdd }
+{
+}
+
+/// The first state is valid, and each thing that is done keeps a state valid.
+pub fn states_stay_valid()
+    ensures { StaysValid }
+{
+}
+
+/// The first state has the objects of its plan, and each thing that is done keeps them.
+pub fn states_keep_their_objects()
+    ensures { StaysMatched }
+{
+}
