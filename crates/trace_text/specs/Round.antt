@@ -39,11 +39,11 @@ wait_of (key ∷ fence ∷ value ∷ []) =
     if bytes_eq key (codes "hostwait") && bytes_eq fence (codes "f") then number_of value else None
 wait_of _ = None
 
--- the four lines that record the copy and execute it
-unfoldable pub is_recorded : List ℕ → List ℕ → List ℕ → List ℕ → Bool
-is_recorded reset copy close execute =
-    bytes_eq reset (codes "reset l a") && (bytes_eq copy (codes "copy l b 0 u 0 16")
-    && (bytes_eq close (codes "close l") && bytes_eq execute (codes "execute q l")))
+-- the five lines that record the copy, execute it, and read what it wrote
+unfoldable pub is_recorded : List ℕ → List ℕ → List ℕ → List ℕ → List ℕ → Bool
+is_recorded reset copy close execute read =
+    (bytes_eq reset (codes "reset l a") && (bytes_eq copy (codes "copy l b 0 u 0 16") && bytes_eq close (codes "close l")))
+    && (bytes_eq execute (codes "execute q l") && bytes_eq read (codes "read b 0 16"))
 
 -- the value is above that of the round before, and the wait is for the value that is signalled
 unfoldable pub risen_round : ℕ → List ℕ → ℕ → ℕ → Option Round
@@ -56,6 +56,11 @@ joined_round above (Some ws) (Some signal) None = None
 joined_round above (Some ws) None wait = None
 joined_round above None signal wait = None
 
+-- the round of the three lines that differ from round to round
+abbrev pub round_of_three : ℕ → List ℕ → List ℕ → List ℕ → Option Round
+round_of_three above write signal wait =
+    joined_round above (written_of (words_of write)) (signal_of (words_of signal)) (wait_of (words_of wait))
+
 abbrev pub with_rest : List (List ℕ) → Option Round → Option (Round × List (List ℕ))
 with_rest rest None = None
 with_rest rest (Some r) = Some (r, rest)
@@ -63,9 +68,7 @@ with_rest rest (Some r) = Some (r, rest)
 -- the round that the lines begin with, and the lines behind it, where the round before has that value
 unfoldable pub round_of : ℕ → List (List ℕ) → Option (Round × List (List ℕ))
 round_of above (write ∷ reset ∷ copy ∷ close ∷ execute ∷ signal ∷ wait ∷ read ∷ rest) =
-    if is_recorded reset copy close execute && bytes_eq read (codes "read b 0 16")
-    then with_rest rest (joined_round above (written_of (words_of write)) (signal_of (words_of signal)) (wait_of (words_of wait)))
-    else None
+    if is_recorded reset copy close execute read then with_rest rest (round_of_three above write signal wait) else None
 round_of above _ = None
 
 -- the calls of a round, in order
