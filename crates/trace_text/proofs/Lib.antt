@@ -1,2 +1,4 @@
+pub mod Declared
 pub mod Digits
+pub mod Rounds
 pub mod Worlds

@@ -12,6 +12,7 @@ use Rattle.trace_text.specs.Form.{world_with, world_of_rounds, rounds_in, world_
 -- what the calls of rounds name are the objects of the declarations
 pub named_calls : (calls : List Call) (rounds : List Round) →
     list_all (is_named (world_with calls)) (flat_map calls_of rounds) ≡ true
+unfolding calls_of
 named_calls calls [] = refl
 named_calls calls (r ∷ rounds) = named_calls calls rounds
 

@@ -72,7 +72,7 @@ round_of above (write ∷ reset ∷ copy ∷ close ∷ execute ∷ signal ∷ wa
 round_of above _ = None
 
 -- the calls of a round, in order
-abbrev pub calls_of : Round → List Call
+unfoldable pub calls_of : Round → List Call
 calls_of r =
     call.Write (record { 0 = 0 }) 0 r.words
     ∷ call.Reset (record { 0 = 0 }) (record { 0 = 0 })

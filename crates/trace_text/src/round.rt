@@ -136,6 +136,7 @@ pub fn read_round<'a>(
 }
 
 /// Appends the calls of a round.
+#[tactic(auto, unfolding(crate::specs::Round::calls_of))]
 pub fn push_calls(alloc: Global, calls: &mut Seq<Call>, round: Round) -> Result<(), Memory>
     ensures { OnOk result (calls.new ≡ calls.old ++ calls_of round) }
 {
