@@ -9,6 +9,8 @@ use Rattle.d3d_machine.specs.declared.events.Event.{Event}
 use Rattle.d3d_machine.specs.declared.events.Event.TheVariants as event
 use Rattle.trace_text.specs.declared.names.Ending.{Ending}
 use Rattle.trace_text.specs.declared.names.Names.{Names}
+use Rattle.trace_text.specs.declared.status.Cause.{Cause}
+use Rattle.trace_text.specs.declared.status.Rule.{Rule}
 use Rattle.trace_text.specs.declared.status.Status.{Status}
 use Rattle.trace_text.specs.declared.status.Status.TheVariants as status
 use Rattle.trace_text.specs.Names.{name_at}
@@ -70,6 +72,19 @@ unfoldable pub stalled_lines : List ℕ → List (List ℕ) → List ℕ → Lis
 stalled_lines kind names [] = []
 stalled_lines kind names (i ∷ is) = (codes "stalled" ∷ kind ∷ name_at names i ∷ []) ∷ stalled_lines kind names is
 
+-- `usage K`
+abbrev pub usage_line : ℕ → List (List ℕ)
+usage_line k = codes "usage" ∷ decimal k ∷ []
+
+-- `refused line N CAUSE`
+abbrev pub refused_line : ℕ → Cause → List (List ℕ)
+refused_line n c = codes "refused" ∷ codes "line" ∷ decimal n ∷ cause_word c ∷ []
+
+-- `broken RULE EVENT`
+abbrev pub broken_line : Rule → ℕ → List (List ℕ)
+broken_line r n = codes "broken" ∷ rule_word r ∷ decimal n ∷ []
+
+-- `torn HEAP SLOT DECLARED FOUND`
 abbrev pub torn_line : Torn → List (List ℕ)
 torn_line x = codes "torn" ∷ decimal x.heap ∷ decimal x.slot ∷ decimal x.declared ∷ decimal x.found ∷ []
 
@@ -86,11 +101,11 @@ left_lines names ending =
 unfoldable pub output_lines : Names → Status → List Event → Ending → List (List (List ℕ))
 output_lines names status.Done h ending = run_lines names h ending
 output_lines names status.Stalled h ending = run_lines names h ending ++ left_lines names ending
-output_lines names (status.Usage k) h ending = (codes "usage" ∷ decimal k ∷ []) ∷ []
-output_lines names (status.Refused n c) h ending = (codes "refused" ∷ decimal n ∷ cause_word c ∷ []) ∷ []
+output_lines names (status.Usage k) h ending = usage_line k ∷ []
+output_lines names (status.Refused n c) h ending = refused_line n c ∷ []
 output_lines names status.ReadFault h ending = (codes "read" ∷ codes "fault" ∷ []) ∷ []
 output_lines names status.WriteFault h ending = []
-output_lines names (status.Broken r n) h ending = call_lines 0 names.threads h ++ (codes "broken" ∷ rule_word r ∷ decimal n ∷ []) ∷ []
+output_lines names (status.Broken r n) h ending = call_lines 0 names.threads h ++ broken_line r n ∷ []
 output_lines names (status.Torn x) h ending = call_lines 0 names.threads h ++ torn_line x ∷ []
 output_lines names status.DeviceLost h ending = call_lines 0 names.threads h ++ (codes "device" ∷ codes "lost" ∷ codes "887a0005" ∷ []) ∷ []
 output_lines names status.Memory h ending = (codes "out" ∷ codes "of" ∷ codes "memory" ∷ codes "8007000e" ∷ []) ∷ []
