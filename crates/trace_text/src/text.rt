@@ -1,6 +1,6 @@
 //! The text of a run's output.
 
-ghost use Rattle.std.specs.Prelude.{◌≡◌, ◌+◌, ◌^◌, ◌<◌, ◌++◌, List, length, flat_map, IfOk, OnOk, IfSome};
+ghost use Rattle.std.specs.Prelude.{◌≡◌, ◌+◌, ◌^◌, ◌<◌, ◌≤◌, ◌++◌, List, length, flat_map, IfOk, OnOk, IfSome};
 ghost use Rattle.std.specs.Option.{option_copied};
 ghost use Rattle.d3d_machine.specs.declared.events.Event.{Event};
 ghost use Rattle.trace_text.specs.declared.names.Names.{Names};
@@ -60,6 +60,7 @@ fn put_reply(out: &mut Vec<u8>, name: &[u8], call: u64, reply: &Reply) -> Result
 fn put_event(out: &mut Vec<u8>, name: &[u8], thread: usize, call: u64, event: &Event) -> Result<u64, Memory>
     requires { call + 1 < 2 ^ 64 }
     ensures next { IfOk result (λ next. next ≡ call + length (replies_by thread event.now)) }
+    ensures small { IfOk result (λ next. next ≤ call + 1) }
     ensures text { OnOk result (out.new.items
         ≡ out.old.items ++ flat_map line_text (answer_lines name.now call (replies_by thread event.now))) }
 {
@@ -78,7 +79,7 @@ fn put_event(out: &mut Vec<u8>, name: &[u8], thread: usize, call: u64, event: &E
 }
 
 /// Appends the lines of a thread's answered calls.
-#[tactic(auto, unfolding(crate::specs::Text::replies_in))]
+#[tactic(auto, unfolding(crate::specs::Text::replies_in, crate::specs::Text::answer_lines))]
 fn put_thread(out: &mut Vec<u8>, name: &[u8], thread: usize, history: &[Event]) -> Result<(), Memory>
     ensures { OnOk result (out.new.items
         ≡ out.old.items ++ flat_map line_text (answer_lines name.now 1 (replies_in thread history.now))) }
@@ -186,8 +187,7 @@ fn put_usage(out: &mut Vec<u8>, argument: u32) -> Result<(), Memory>
 fn put_refused(out: &mut Vec<u8>, line: u64, cause: Cause) -> Result<(), Memory>
     ensures { OnOk result (out.new.items ≡ out.old.items ++ line_text (refused_line line cause)) }
 {
-    put(out, b"refused")?;
-    put_next(out, b"line")?;
+    put(out, b"refused line")?;
     put_number(out, line)?;
     put_next(out, cause.word().as_bytes())?;
     end_line(out)
