@@ -1,0 +1,5 @@
+pub mod Answered
+pub mod Declared
+pub mod Digits
+pub mod Rounds
+pub mod Worlds

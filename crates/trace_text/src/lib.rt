@@ -1,0 +1,18 @@
+//! The text layer: the reader of traces, the text of a run's output, and what a run ends with.
+#![tactic(auto)]
+
+mod append;
+mod data;
+mod lines;
+mod names;
+mod text;
+mod reader;
+mod round;
+mod status;
+#[cfg(test)]
+mod tests;
+
+pub use names::{Ending, Names, names_of_form};
+pub use text::{output, plain_line};
+pub use reader::{ROUNDS, read_world};
+pub use status::{Cause, Report, Rule, Status, Verdict};

@@ -1,0 +1,164 @@
+//! What a run ends with: its status, its verdict, and the report of both with the steps that led there.
+
+ghost use Rattle.std.specs.Prelude.{◌≡◌};
+ghost use Rattle.trace_text.specs.Status.{exit_code_of, cause_word, rule_word};
+
+use d3d_machine::Event;
+use dx_base::{Step, Torn};
+
+/// Why a trace is refused.
+#[derive(Clone, Copy, Debug, PartialEq, Eq)]
+pub enum Cause {
+    /// The text is longer than a trace may be.
+    Size,
+    /// A line is too long, or has a byte that no line has.
+    Line,
+    /// The text stops inside a line, or before its last line.
+    Cut,
+    /// A byte stands behind the last line.
+    After,
+    /// A form of a later version of the text.
+    Later,
+    /// A line that may not stand there.
+    Order,
+    /// The words are of no form.
+    Form,
+    /// A number is out of its range.
+    Number,
+    /// A name is declared again.
+    Again,
+    /// A name is not declared.
+    Name,
+    /// More objects than a world may have.
+    Limit,
+}
+
+impl Cause {
+    /// The cause's name, in lower case.
+    pub fn word(self) -> &'static str
+        ensures { result.now ≡ cause_word self }
+    {
+        match self {
+            Cause::Size => "size",
+            Cause::Line => "line",
+            Cause::Cut => "cut",
+            Cause::After => "after",
+            Cause::Later => "later",
+            Cause::Order => "order",
+            Cause::Form => "form",
+            Cause::Number => "number",
+            Cause::Again => "again",
+            Cause::Name => "name",
+            Cause::Limit => "limit",
+        }
+    }
+}
+
+/// A rule of the judges of Direct3D.
+#[derive(Clone, Copy, Debug, PartialEq, Eq)]
+pub enum Rule {
+    B1,
+    B2,
+    B3,
+    B4,
+    B5,
+    B6,
+    B7,
+    B8,
+    B9,
+    B10,
+    B11,
+    B12,
+    B13,
+}
+
+impl Rule {
+    /// The rule's name.
+    pub fn word(self) -> &'static str
+        ensures { result.now ≡ rule_word self }
+    {
+        match self {
+            Rule::B1 => "B1",
+            Rule::B2 => "B2",
+            Rule::B3 => "B3",
+            Rule::B4 => "B4",
+            Rule::B5 => "B5",
+            Rule::B6 => "B6",
+            Rule::B7 => "B7",
+            Rule::B8 => "B8",
+            Rule::B9 => "B9",
+            Rule::B10 => "B10",
+            Rule::B11 => "B11",
+            Rule::B12 => "B12",
+            Rule::B13 => "B13",
+        }
+    }
+}
+
+/// What the judges say of a history.
+#[derive(Clone, Copy, Debug, PartialEq, Eq)]
+pub enum Verdict {
+    /// No event breaks a rule.
+    Clean,
+    /// The first event that breaks a rule, by its place in the history counted from 0, and the least rule that
+    /// it breaks.
+    Broken(Rule, u64),
+}
+
+/// How a run ended.
+#[derive(Clone, Copy, Debug, PartialEq, Eq)]
+pub enum Status {
+    /// Every script ended and every queue is empty.
+    Done,
+    /// No step was left, and a script or a queue was not at its end.
+    Stalled,
+    /// The argument of that place, counted from 1, is not one that the program takes.
+    Usage(u32),
+    /// The trace is refused at that line, counted from 1.
+    Refused(u64, Cause),
+    /// The source of the trace failed.
+    ReadFault,
+    /// The sink of the output failed.
+    WriteFault,
+    /// A rule was broken by the event of that place in the history, counted from 0.
+    Broken(Rule, u64),
+    /// A descriptor word had another version than the one declared.
+    Torn(Torn),
+    /// The device was lost.
+    DeviceLost,
+    /// Memory was refused.
+    Memory,
+}
+
+impl Status {
+    /// The exit status of the program.
+    pub fn exit_code(self) -> u8
+        ensures { result ≡ exit_code_of self }
+    {
+        match self {
+            Status::Done => 0,
+            Status::Stalled => 1,
+            Status::Usage(_) => 2,
+            Status::Refused(_, _) => 3,
+            Status::ReadFault => 4,
+            Status::WriteFault => 5,
+            Status::Broken(_, _) => 6,
+            Status::Torn(_) => 6,
+            Status::DeviceLost => 7,
+            Status::Memory => 8,
+        }
+    }
+}
+
+/// A run: how it ended, the choices and the steps that they took, the events of the Direct3D machine, what the
+/// judges say of them, the torn word where one was found, and the device.
+#[derive(Drop)]
+pub struct Report<D> {
+    pub status: Status,
+    pub choices: Vec<u64>,
+    pub taken: Vec<Step>,
+    pub history: Vec<Event>,
+    pub verdict: Verdict,
+    pub torn: Option<Torn>,
+    pub device: D,
+}

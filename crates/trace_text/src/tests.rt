@@ -1,0 +1,5 @@
+//! Worked rows: texts of the form and near misses of it, and the output of each status.
+
+mod misses;
+mod outputs;
+mod worlds;

@@ -1,0 +1,128 @@
+//! The output of each status.
+
+use crate::{Cause, Ending, Names, Rule, Status, names_of_form, output, plain_line};
+use d3d_machine::{Call, Event, Reply};
+use dx_base::{FenceId, Hresult, Memory, QueueId, Seq, ThreadId, Torn};
+use std::alloc::Global;
+use std::test::Fail;
+
+/// An answered call of a thread.
+fn answered(thread: u32, reply: Reply) -> Event {
+    Event::Call {
+        thread: ThreadId(thread),
+        call: Call::HostWait { fence: FenceId(0), value: 1 },
+        reply,
+    }
+}
+
+/// Seven calls of one thread that are answered Done, events that are no calls, and an eighth call that reads words.
+fn one_round(alloc: Global) -> Result<Vec<Event>, Memory> {
+    let mut history = Vec::new(alloc);
+    for _ in 0..7 {
+        history.push(answered(0, Reply::Done))?;
+    }
+    history.push(Event::Queue(QueueId(0)))?;
+    history.push(Event::Awake(ThreadId(0)))?;
+    history.push(answered(0, Reply::Words(Seq::from_slice(alloc, &[1, 2, 3, 4])?)))?;
+    Ok(history)
+}
+
+/// An ending with one fence of that value, and thread 0 and queue 0 left.
+fn ending_at(alloc: Global, value: u64) -> Result<Ending, Memory> {
+    Ok(Ending {
+        fences: Seq::from_slice(alloc, &[value])?,
+        threads: Seq::from_slice(alloc, &[0])?,
+        queues: Seq::from_slice(alloc, &[0])?,
+    })
+}
+
+#[test]
+fn each_status_has_its_lines(rt: HostRuntime) -> Result<(), Fail> {
+    let alloc = rt.alloc();
+    let names = names_of_form(alloc)?;
+    let history = one_round(alloc)?;
+    let ending = ending_at(alloc, 1)?;
+    let torn = Torn { heap: 3, slot: 70000, declared: 0, found: 4_294_967_295 };
+    for (status, want) in [
+        (Status::Done, "t 8 words 00000001 00000002 00000003 00000004\nfence f 1\n"),
+        (
+            Status::Stalled,
+            "t 8 words 00000001 00000002 00000003 00000004\nfence f 1\nstalled thread t\nstalled queue q\n",
+        ),
+        (Status::Usage(3), "usage 3\n"),
+        (Status::Refused(18_446_744_073_709_551_615, Cause::Later), "refused line 18446744073709551615 later\n"),
+        (Status::ReadFault, "read fault\n"),
+        (Status::WriteFault, ""),
+        (Status::Broken(Rule::B13, 9), "t 8 words 00000001 00000002 00000003 00000004\nbroken B13 9\n"),
+        (Status::Torn(torn), "t 8 words 00000001 00000002 00000003 00000004\ntorn 3 70000 0 4294967295\n"),
+        (Status::DeviceLost, "t 8 words 00000001 00000002 00000003 00000004\ndevice lost 887a0005\n"),
+        (Status::Memory, "out of memory 8007000e\n"),
+    ] {
+        let found = output(alloc, &names, status, history.as_slice(), &ending)?;
+        assert!(rt; found.as_slice() == want.as_bytes(), "at {want}");
+        let plain = plain_line(status);
+        if let Some(line) = plain {
+            assert!(rt; line == want.as_bytes(), "at {want}");
+        }
+        assert_eq!(rt; plain.is_some(), want == "read fault\n" || want == "out of memory 8007000e\n");
+    }
+    Ok(())
+}
+
+/// The list of names that are given.
+fn names_from(alloc: Global, words: [&str; 2]) -> Result<Seq<Seq<u8>>, Memory> {
+    let mut names = Seq::new(alloc);
+    for word in words {
+        names.push(Seq::from_slice(alloc, word.as_bytes())?)?;
+    }
+    Ok(names)
+}
+
+#[test]
+fn calls_count_by_thread_and_threads_print_in_order(rt: HostRuntime) -> Result<(), Fail> {
+    let alloc = rt.alloc();
+    let names = Names {
+        threads: names_from(alloc, ["one", "two"])?,
+        queues: names_from(alloc, ["q", "r"])?,
+        fences: names_from(alloc, ["f", "g"])?,
+    };
+    let mut history = Vec::new(alloc);
+    history.push(answered(1, Reply::Value(18_446_744_073_709_551_615)))?;
+    history.push(answered(0, Reply::Done))?;
+    history.push(answered(1, Reply::Done))?;
+    history.push(answered(0, Reply::Error(Hresult::InvalidArg)))?;
+    history.push(answered(1, Reply::Error(Hresult::Fail)))?;
+    history.push(answered(0, Reply::Words(Seq::from_slice(alloc, &[0xdead_beef, 0])?)))?;
+    history.push(answered(0, Reply::Words(Seq::new(alloc))))?;
+    history.push(answered(2, Reply::Value(7)))?;
+    let ending = Ending {
+        fences: Seq::from_slice(alloc, &[0, 10, 5])?,
+        threads: Seq::from_slice(alloc, &[1, 9])?,
+        queues: Seq::from_slice(alloc, &[0, 1])?,
+    };
+    let found = output(alloc, &names, Status::Stalled, history.as_slice(), &ending)?;
+    let want = "one 2 80070057\none 3 words deadbeef 00000000\none 4 words\n\
+two 1 value 18446744073709551615\ntwo 3 80004005\nfence f 0\nfence g 10\nfence  5\n\
+stalled thread two\nstalled thread \nstalled queue q\nstalled queue r\n";
+    assert!(rt; found.as_slice() == want.as_bytes());
+    Ok(())
+}
+
+#[test]
+fn each_status_has_its_exit_status(rt: HostRuntime) {
+    let torn = Torn { heap: 0, slot: 0, declared: 0, found: 0 };
+    for (status, code) in [
+        (Status::Done, 0),
+        (Status::Stalled, 1),
+        (Status::Usage(1), 2),
+        (Status::Refused(1, Cause::Size), 3),
+        (Status::ReadFault, 4),
+        (Status::WriteFault, 5),
+        (Status::Broken(Rule::B1, 0), 6),
+        (Status::Torn(torn), 6),
+        (Status::DeviceLost, 7),
+        (Status::Memory, 8),
+    ] {
+        assert_eq!(rt; status.exit_code(), code);
+    }
+}
