@@ -10,3 +10,4 @@ pub mod Named
 pub mod Marking
 pub mod Short
 pub mod CallsOnLists
+pub mod Sizes

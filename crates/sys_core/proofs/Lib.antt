@@ -5,3 +5,4 @@ pub mod Lowered
 pub mod Updates
 pub mod Inside
 pub mod Serving
+pub mod Buffers
