@@ -6,3 +6,4 @@ pub mod Updates
 pub mod Inside
 pub mod Serving
 pub mod Buffers
+pub mod Calling
