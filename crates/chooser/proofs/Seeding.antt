@@ -2,7 +2,7 @@
 use Rattle.std.proofs.Common.{◌≡◌, ℕ, List, [], ◌∷◌, ◌++◌, length, length-append, add-one, ◌∙◌, ap}
 use Rattle.rand_pcg.specs.Lcg.{Lcg}
 use Rattle.rand_pcg.specs.Pcg.{pcg64}
-use Rattle.chooser.specs.Chosen.{seeded, seeded_after, seeded_word}
+use Rattle.chooser.specs.Seeded.{seeded, seeded_after, seeded_word}
 
 -- nothing was given yet
 pub seeded_first : (number : ℕ) (given : List ℕ) (g : Lcg) → g ≡ seeded number → given ≡ [] → g ≡ seeded_after number (length given)

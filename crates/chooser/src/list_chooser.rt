@@ -1,7 +1,7 @@
 //! A chooser that gives the numbers of a list.
 
 ghost use Rattle.std.specs.Prelude.{◌≡◌, [], ◌∷◌, ◌++◌, length, None, Some, IfOk, OnErr};
-ghost use Rattle.chooser.specs.Chosen.{listed};
+ghost use Rattle.chooser.specs.Listed.{listed};
 
 use crate::choice::Chooser;
 use dx_base::Memory;
@@ -18,7 +18,7 @@ pub struct ListChooser {
 }
 
 impl Model for ListChooser {
-    ghost use Rattle.chooser.specs.Chosen.{ListView};
+    ghost use Rattle.chooser.specs.Listed.{ListView};
 
     ghost Value = { ListView };
 

@@ -1,7 +1,7 @@
 //! A chooser that gives the numbers of a generator of random numbers.
 
 ghost use Rattle.std.specs.Prelude.{◌≡◌, [], ◌∷◌, ◌++◌, length, None, Some, IfOk, OnErr};
-ghost use Rattle.chooser.specs.Chosen.{seed_of, seeded, seeded_word};
+ghost use Rattle.chooser.specs.Seeded.{seed_of, seeded, seeded_word};
 
 use crate::choice::Chooser;
 use dx_base::Memory;
@@ -22,7 +22,7 @@ pub struct PcgChooser {
 
 impl Model for PcgChooser {
     ghost use Rattle.std.specs.Prelude.{◌≡◌, length};
-    ghost use Rattle.chooser.specs.Chosen.{PcgView, seed_of, seeded_after};
+    ghost use Rattle.chooser.specs.Seeded.{PcgView, seed_of, seeded_after};
 
     ghost Value = { PcgView };
 
@@ -31,7 +31,7 @@ impl Model for PcgChooser {
     ghost invariant = { λ c. c.generator ≡ seeded_after (seed_of c.started) (length c.given.items) };
 }
 
-#[tactic(auto, unfolding(crate::specs::Chosen::seeded))]
+#[tactic(auto, unfolding(crate::specs::Seeded::seeded))]
 fn generator_of(number: u64) -> Lcg128Xsl64
     ensures { result ≡ seeded number }
 {

@@ -1,5 +1,5 @@
--- What contracts see of the calls of a source or a sink in memory, and of the two themselves.
-use Rattle.std.specs.Prelude.{ℕ, ◌+◌, ◌-◌, ◌^◌, ◌==◌, nat_lt, Bool, ◌||◌, if◌then◌else◌, List}
+-- What contracts see of the calls of a source or a sink in memory.
+use Rattle.std.specs.Prelude.{ℕ, ◌+◌, ◌-◌, ◌^◌, ◌==◌, nat_lt, Bool, if◌then◌else◌, List}
 use Rattle.std.specs.List.{list_any}
 
 -- the calls so far
@@ -30,28 +30,3 @@ after_success c = record c { made = one_more c.made }
 -- after a call that failed
 abbrev pub after_fault : Calls → Calls
 after_fault c = record c { made = one_more c.made; faults = one_more c.faults }
-
--- a source in memory
-pub record SourceView : Type 0 where
-  -- the bytes still to come
-  pub left : List ℕ
-  pub calls : Calls
-
--- a sink in memory
-pub record SinkView : Type 0 where
-  -- the bytes taken
-  pub held : List ℕ
-  -- how many more it takes
-  pub room : ℕ
-  pub calls : Calls
-
--- the next write fails: it is one that is to, or no room is left
-abbrev pub refuses_next : SinkView → Bool
-refuses_next s = fails_next s.calls || (s.room == 0)
-
--- a source or a sink over one of the standard library's readers or writers
-pub record StdView (T : Type 0) : Type 0 where
-  -- the reader, or the writer
-  pub inner : T
-  -- how many faults came, which stops at the last number of its type
-  pub faults : ℕ

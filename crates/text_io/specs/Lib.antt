@@ -1,2 +1,3 @@
 pub mod Calls
 pub mod Prefix
+pub mod Views

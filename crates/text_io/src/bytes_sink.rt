@@ -2,7 +2,8 @@
 
 ghost use Rattle.std.specs.Prelude.{◌≡◌, ◌≤◌, ◌<◌, ◌-◌, [], ◌++◌, min, length, take, Some, IfOk, OnErr, if◌then◌else◌};
 ghost use Rattle.std.specs.Result.{is_err};
-ghost use Rattle.text_io.specs.Calls.{no_calls, refuses_next, after_success, after_fault};
+ghost use Rattle.text_io.specs.Calls.{no_calls, after_success, after_fault};
+ghost use Rattle.text_io.specs.Views.{refuses_next};
 
 use crate::calls::CallCount;
 use crate::outside::{Failed, Sink};
@@ -20,7 +21,7 @@ pub struct BytesSink {
 
 impl Model for BytesSink {
     ghost use Rattle.std.specs.Prelude.{◌+◌, ◌≤◌, vec_len, vec_capacity};
-    ghost use Rattle.text_io.specs.Calls.{SinkView};
+    ghost use Rattle.text_io.specs.Views.{SinkView};
 
     ghost Value = { SinkView };
 

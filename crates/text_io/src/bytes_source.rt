@@ -18,7 +18,7 @@ pub struct BytesSource {
 
 impl Model for BytesSource {
     ghost use Rattle.std.specs.Prelude.{◌≤◌, drop, vec_len};
-    ghost use Rattle.text_io.specs.Calls.{SourceView};
+    ghost use Rattle.text_io.specs.Views.{SourceView};
 
     ghost Value = { SourceView };
 

@@ -33,6 +33,7 @@ impl CallCount {
         }
     }
 
+    /// How many faults came.
     pub fn faults(&self) -> u64
         ensures { result ≡ self.now.faults }
     {
@@ -49,12 +50,14 @@ impl CallCount {
             .any(|k| u128::from(*k) == u128::from(made) + 1)
     }
 
+    /// A call was made.
     pub fn succeed(&mut self)
         ensures { self.new ≡ after_success self.old }
     {
         self.made = self.made.saturating_add(1);
     }
 
+    /// A call was made, and failed.
     pub fn fail(&mut self)
         ensures { self.new ≡ after_fault self.old }
     {

@@ -9,6 +9,7 @@ use crate::outside::{Failed, Sink};
 pub struct NoSink;
 
 impl NoSink {
+    /// The sink; it takes no memory.
     pub fn new() -> NoSink {
         NoSink
     }
@@ -17,6 +18,7 @@ impl NoSink {
 impl Sink for NoSink {
     ghost faults = { λ _. 0 };
 
+    /// Takes the whole slice.
     fn write(&mut self, from: &[u8]) -> Result<usize, Failed>
         requires { 0 < length from.now }
         ensures { result ≡ Ok (length from.now) }

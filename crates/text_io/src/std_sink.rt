@@ -17,7 +17,7 @@ pub struct StdSink<W> {
 }
 
 impl<W> Model for StdSink<W> {
-    ghost use Rattle.text_io.specs.Calls.{StdView};
+    ghost use Rattle.text_io.specs.Views.{StdView};
 
     ghost Value = { StdView W };
 
@@ -25,6 +25,7 @@ impl<W> Model for StdSink<W> {
 }
 
 impl<W> StdSink<W> {
+    /// A sink over this writer, with no fault so far.
     pub fn new(inner: W) -> StdSink<W>
         ensures { result ≡ record { inner = inner; faults = 0 } }
     {

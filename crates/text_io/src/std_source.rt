@@ -17,7 +17,7 @@ pub struct StdSource<R> {
 }
 
 impl<R> Model for StdSource<R> {
-    ghost use Rattle.text_io.specs.Calls.{StdView};
+    ghost use Rattle.text_io.specs.Views.{StdView};
 
     ghost Value = { StdView R };
 
@@ -25,6 +25,7 @@ impl<R> Model for StdSource<R> {
 }
 
 impl<R> StdSource<R> {
+    /// A source over this reader, with no fault so far.
     pub fn new(inner: R) -> StdSource<R>
         ensures { result ≡ record { inner = inner; faults = 0 } }
     {

@@ -1,5 +1,5 @@
 use Rattle.std.proofs.Common.{rules}
-use Rattle.chooser.specs.Chosen.{seed_of}
+use Rattle.chooser.specs.Seeded.{seed_of}
 use Rattle.chooser.proofs.Seeding.{seeded_gives, seeded_next}
 use Rattle.chooser.proofs.pcg_chooser.PcgChooserChooser.next.Goals as goal
 

@@ -1,19 +1,8 @@
--- What contracts see of the choosers, and which numbers they give.
-use Rattle.std.specs.Prelude.{ℕ, zero, suc, List, Option, None, Some, slice_index_or}
+-- The numbers of a generator that is made from a number, as a chooser gives them.
+use Rattle.std.specs.Prelude.{ℕ, zero, suc, List, Option, None, Some}
 use Rattle.rand_core.specs.Pcg32Seed.{pcg32_seed}
 use Rattle.rand_pcg.specs.Lcg.{Lcg}
 use Rattle.rand_pcg.specs.Pcg.{pcg64, pcg64_of_seed}
-
--- a chooser of the numbers of a list
-pub record ListView : Type 0 where
-  pub list : List ℕ
-  pub started : Option ℕ
-  -- the numbers given since the last start
-  pub given : List ℕ
-
--- the number at a place of the list, and 0 behind its end
-abbrev pub listed : List ℕ → ℕ → ℕ
-listed list k = slice_index_or list k 0
 
 -- a chooser of the numbers of a generator
 pub record PcgView : Type 0 where
