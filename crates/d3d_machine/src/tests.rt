@@ -91,6 +91,29 @@ fn error_of(
     }
 }
 
+/// Makes the steps of a table, each of which has the error beside it.
+fn expect(
+    rt: &impl Abort,
+    alloc: Global,
+    world: &World,
+    lists: &mut Lists,
+    rows: &[(Step, Option<Hresult>)],
+) -> Result<(), Memory> {
+    for (step, want) in rows {
+        let answer = error_of(rt, alloc, world, lists, *step)?;
+        assert!(rt; answer == *want, "at {step:?}");
+    }
+    Ok(())
+}
+
+/// Records as many commands into the first list as a list can hold.
+fn fill(rt: &impl Abort, alloc: Global, world: &World, lists: &mut Lists) -> Result<(), Memory> {
+    for _number in 0..LIST_COMMANDS {
+        error_of(rt, alloc, world, lists, Step::Copy(0, 4))?;
+    }
+    Ok(())
+}
+
 #[test]
 fn calls_on_lists_are_refused_in_the_order_of_the_table(rt: HostRuntime) -> Result<(), Fail> {
     let alloc = rt.alloc();
@@ -121,13 +144,7 @@ fn calls_on_lists_are_refused_in_the_order_of_the_table(rt: HostRuntime) -> Resu
         (Step::Close(1), None),
         (Step::Execute(9), fail),
     ];
-    for (step, want) in rows {
-        assert_eq!(rt;
-            error_of(&rt, alloc, &world, &mut lists, step)?,
-            want,
-            "at {step:?}"
-        );
-    }
+    expect(&rt, alloc, &world, &mut lists, &rows)?;
     Ok(())
 }
 
@@ -136,46 +153,31 @@ fn a_list_takes_1024_commands_and_no_more(rt: HostRuntime) -> Result<(), Fail> {
     let alloc = rt.alloc();
     let world = small_world(alloc)?;
     let mut lists = Lists::new(alloc, &world)?;
-    assert_eq!(rt;
-        error_of(&rt, alloc, &world, &mut lists, Step::Reset(0, 0))?,
-        None
-    );
-    for _number in 0..1024 {
-        assert_eq!(rt;
-            error_of(&rt, alloc, &world, &mut lists, Step::Copy(0, 4))?,
-            None
-        );
-    }
-    assert_eq!(rt;
-        error_of(&rt, alloc, &world, &mut lists, Step::Close(0))?,
-        None
-    );
+    expect(&rt, alloc, &world, &mut lists, &[(Step::Reset(0, 0), None)])?;
+    fill(&rt, alloc, &world, &mut lists)?;
+    expect(
+        &rt,
+        alloc,
+        &world,
+        &mut lists,
+        &[(Step::Close(0), None), (Step::Reset(0, 0), None)],
+    )?;
+    fill(&rt, alloc, &world, &mut lists)?;
+    expect(
+        &rt,
+        alloc,
+        &world,
+        &mut lists,
+        &[
+            (Step::Copy(0, 20), None),
+            (Step::Close(0), Some(Hresult::Fail)),
+        ],
+    )?;
     assert!(rt; lists.len() == 3);
-    assert_eq!(rt;
-        lists.closed(ListId(0)).map(|commands| commands.len()),
-        Some(LIST_COMMANDS)
-    );
-    assert_eq!(rt;
-        error_of(&rt, alloc, &world, &mut lists, Step::Reset(0, 0))?,
-        None
-    );
-    for _number in 0..1024 {
-        assert_eq!(rt;
-            error_of(&rt, alloc, &world, &mut lists, Step::Copy(0, 4))?,
-            None
-        );
-    }
-    assert_eq!(rt;
-        error_of(&rt, alloc, &world, &mut lists, Step::Copy(0, 20))?,
-        None
-    );
-    assert_eq!(rt;
-        error_of(&rt, alloc, &world, &mut lists, Step::Close(0))?,
-        Some(Hresult::Fail),
+    assert!(rt;
+        lists.state(ListId(0)) == ListState::Failed,
         "a full list comes before a bad argument"
     );
-    assert!(rt; lists.len() == 3);
-    assert_eq!(rt; lists.state(ListId(0)), ListState::Failed);
     Ok(())
 }
 
@@ -184,22 +186,16 @@ fn lists_are_gathered_in_the_order_of_the_call(rt: HostRuntime) -> Result<(), Fa
     let alloc = rt.alloc();
     let world = small_world(alloc)?;
     let mut lists = Lists::new(alloc, &world)?;
-    let steps = [
-        Step::Reset(0, 0),
-        Step::Copy(0, 4),
-        Step::Copy(0, 8),
-        Step::Close(0),
-        Step::Reset(1, 0),
-        Step::Copy(1, 12),
-        Step::Close(1),
+    let rows = [
+        (Step::Reset(0, 0), None),
+        (Step::Copy(0, 4), None),
+        (Step::Copy(0, 8), None),
+        (Step::Close(0), None),
+        (Step::Reset(1, 0), None),
+        (Step::Copy(1, 12), None),
+        (Step::Close(1), None),
     ];
-    for step in steps {
-        assert_eq!(rt;
-            error_of(&rt, alloc, &world, &mut lists, step)?,
-            None,
-            "at {step:?}"
-        );
-    }
+    expect(&rt, alloc, &world, &mut lists, &rows)?;
     let gathered = lists.gather(
         alloc,
         &world,
@@ -211,7 +207,9 @@ fn lists_are_gathered_in_the_order_of_the_call(rt: HostRuntime) -> Result<(), Fa
         Command { what: copy_of(4) },
         Command { what: copy_of(8) },
     ];
-    assert_eq!(rt; gathered, Ok(Seq::from_slice(alloc, &want)?));
+    assert!(rt; gathered == Ok(Seq::from_slice(alloc, &want)?));
+    assert!(rt; lists.len() == 3);
+    assert!(rt; lists.closed(ListId(1)).is_some());
     Ok(())
 }
 
@@ -295,12 +293,13 @@ fn host_accesses_are_checked(rt: HostRuntime) -> Result<(), Fail> {
 #[test]
 fn calls_and_replies_are_copied(rt: HostRuntime) -> Result<(), Fail> {
     let alloc = rt.alloc();
+    let lists = Seq::from_slice(alloc, &[ListId(2), ListId(1)])?;
     let call = Call::Execute {
         queue: QueueId(0),
-        lists: Seq::from_slice(alloc, &[ListId(2), ListId(1)])?,
+        lists,
     };
-    assert_eq!(rt; call.copied(alloc)?, call);
+    assert!(rt; call.copied(alloc)? == call);
     let reply = Reply::Words(Seq::from_slice(alloc, &[7, 5])?);
-    assert_eq!(rt; reply.copied(alloc)?, reply);
+    assert!(rt; reply.copied(alloc)? == reply);
     Ok(())
 }
