@@ -57,7 +57,7 @@ own_call w d u (call.Close l) r t e h = inl (quiet_call w d u.0 (call.Close l) t
 own_call w d u (call.Reset l a) r t e h = inl (quiet_call w d u.0 (call.Reset l a) t refl ∙ h)
 own_call w d u (call.Execute q ls) r t e h = inl (quiet_call w d u.0 (call.Execute q ls) t refl ∙ h)
 own_call w d u (call.Signal q f v) r t e h = inl (quiet_call w d u.0 (call.Signal q f v) t refl ∙ h)
-own_call w d u (call.HostWait f v) r t e h = inr (record { thread = u; fence = f; value = v; reply = r; of_thread = e; is = refl; })
+own_call w d u (call.HostWait f v) r t e h = inr (record { thread = u; fence = f; value = v; reply = r; of_thread = e; is = refl })
 own_call w d u (call.Write b offset ws) r t e h = inl (quiet_call w d u.0 (call.Write b offset ws) t refl ∙ h)
 own_call w d u (call.Read b offset bytes) r t e h = inl (quiet_call w d u.0 (call.Read b offset bytes) t refl ∙ h)
 
@@ -77,7 +77,7 @@ operation_none d (Some (operation.Signal f v)) t h = waits_mapped f.0 v d.thread
 pub none_step : (w : World) (s : State) (e : Event) (t : ℕ) → (place_of s.desk t).waits ≡ None →
     ((place_of (after w s e).desk t).waits ≡ None) ⊎ IsWaitOf t e
 none_step w s (event.Call u c r) t h = elim (cases_eq u.0 t) [
-    inl e ↦ own_call w s.desk u c r t e h
+  | inl e ↦ own_call w s.desk u c r t e h
   | inr n ↦ inl (ap (λ p. p.waits) (other_call w s.desk u.0 c t n) ∙ h)
 ]
 none_step w s (event.Awake u) t h = inl (still_none s.desk.threads u.0 t h)
@@ -95,8 +95,8 @@ updates_from_both w s f (e ∷ es) fs =
 pub current_is_applied : (w : World) (h before behind : List Event) (f : ℕ) → h ≡ before ++ behind → current_update w before f ≤ length (applied_updates w h f)
 current_is_applied w h before behind f e =
     let both : length (updates_from w (first_state w) f h) ≡ length (updates_from w (first_state w) f before) + length (updates_from w (after_all w (first_state w) before) f behind)
-        = rw e (ap length (updates_from_both w (first_state w) f before behind)
-            ∙ length-append (updates_from w (first_state w) f before) (updates_from w (after_all w (first_state w) before) f behind)) in
+    = rw e (ap length (updates_from_both w (first_state w) f before behind)
+    ∙ length-append (updates_from w (first_state w) f before) (updates_from w (after_all w (first_state w) before) f behind)) in
     omega arith
 
 sleeping_call : (w : World) (s : State) (e : Event) (t : ℕ) (x : Waiting) → (place_of s.desk t).waits ≡ Some x → May SameButWords w s e → calls_by t e ≡ []
@@ -114,11 +114,11 @@ begins_since w h e t y c world may now =
     let named : nat_lt c.fence.0 (length w.fences) ≡ true = next_is_named w (state_after w h).desk c.thread.0 (call.HostWait c.fence c.value) world m.1 in
     let fence : c.fence.0 < length w.fences = grind (arith, nat_tests) in
     let begun : (place_of (state_after w (h ++ event.Call c.thread (call.HostWait c.fence c.value) c.reply ∷ [])).desk c.thread.0).waits
-            ≡ Some (waiting_at w (h ++ event.Call c.thread (call.HostWait c.fence c.value) c.reply ∷ []) c.fence.0 c.value (current_update w h c.fence.0))
-        = wait_begins w h c.thread c.fence c.value c.reply thread fence in
+    ≡ Some (waiting_at w (h ++ event.Call c.thread (call.HostWait c.fence c.value) c.reply ∷ []) c.fence.0 c.value (current_update w h c.fence.0))
+    = wait_begins w h c.thread c.fence c.value c.reply thread fence in
     let here : (place_of (state_after w (h ++ e ∷ [])).desk t).waits ≡ Some (waiting_at w (h ++ e ∷ []) c.fence.0 c.value (current_update w h c.fence.0))
-        = subst (λ k. (place_of (state_after w (h ++ e ∷ [])).desk k).waits ≡ Some (waiting_at w (h ++ e ∷ []) c.fence.0 c.value (current_update w h c.fence.0))) c.of_thread
-            (subst (λ x. (place_of (state_after w (h ++ x ∷ [])).desk c.thread.0).waits ≡ Some (waiting_at w (h ++ x ∷ []) c.fence.0 c.value (current_update w h c.fence.0))) (sym c.is) begun) in
+    = subst (λ k. (place_of (state_after w (h ++ e ∷ [])).desk k).waits ≡ Some (waiting_at w (h ++ e ∷ []) c.fence.0 c.value (current_update w h c.fence.0))) c.of_thread
+    (subst (λ x. (place_of (state_after w (h ++ x ∷ [])).desk c.thread.0).waits ≡ Some (waiting_at w (h ++ x ∷ []) c.fence.0 c.value (current_update w h c.fence.0))) (sym c.is) begun) in
     let same : waiting_at w (h ++ e ∷ []) c.fence.0 c.value (current_update w h c.fence.0) ≡ y = cc in
     subst (λ x. IsMetSince w (h ++ e ∷ []) t x) same (record {
       before = h;
@@ -147,9 +147,9 @@ goes_since w h e t x i was may = record {
   history = ap (λ es. es ++ e ∷ []) i.history ∙ append_assoc i.before (event.Call i.thread (call.HostWait i.fence x.value) i.reply ∷ i.behind) (e ∷ []);
   last = calls_in_append t i.behind e ∙ ap (λ cs. cs ++ calls_by t e) i.last ∙ sleeping_call w (state_after w h) e t x was may;
   mark = ap (λ b. b || list_any (λ u. nat_le x.value u) (update_of (state_after w h).desk x.fence e)) i.mark
-    ∙ sym (is_met_more (applied_updates w h x.fence) (update_of (state_after w h).desk x.fence e) (current_update w i.before x.fence) x.value
-        (current_is_applied w h i.before (event.Call i.thread (call.HostWait i.fence x.value) i.reply ∷ i.behind) x.fence i.history))
-    ∙ ap (λ us. is_met us (current_update w i.before x.fence) x.value) (sym (applied_append w h e x.fence));
+      ∙ sym (is_met_more (applied_updates w h x.fence) (update_of (state_after w h).desk x.fence e) (current_update w i.before x.fence) x.value
+      (current_is_applied w h i.before (event.Call i.thread (call.HostWait i.fence x.value) i.reply ∷ i.behind) x.fence i.history))
+      ∙ ap (λ us. is_met us (current_update w i.before x.fence) x.value) (sym (applied_append w h e x.fence));
 }
 
 awake_ends : (w : World) (h : List Event) (e : Event) (t : ℕ) → is_awake_of t e ≡ true → (place_of (state_after w (h ++ e ∷ [])).desk t).waits ≡ None
@@ -166,7 +166,7 @@ goes_unless w h e t x y true a i was may now =
     let none : (place_of (state_after w (h ++ e ∷ [])).desk t).waits ≡ None = awake_ends w h e t a in cc
 goes_unless w h e t x y false a i was may now =
     let on : (place_of (state_after w (h ++ e ∷ [])).desk t).waits ≡ Some (marked_by x (update_of (state_after w h).desk x.fence e))
-        = ap (λ s. (place_of s.desk t).waits) (state_after_append w h e) ∙ waits_on SameButWords w (state_after w h) e t x was may a in
+    = ap (λ s. (place_of s.desk t).waits) (state_after_append w h e) ∙ waits_on SameButWords w (state_after w h) e t x was may a in
     let same : marked_by x (update_of (state_after w h).desk x.fence e) ≡ y = cc in
     subst (λ z. IsMetSince w (h ++ e ∷ []) t z) same (goes_since w h e t x i was may)
 
@@ -174,7 +174,7 @@ since_step : (w : World) (h : List Event) (e : Event) (t : ℕ) (y : Waiting) (o
     ((x : Waiting) → (place_of (state_after w h).desk t).waits ≡ Some x → IsMetSince w h t x) → May SameButWords w (state_after w h) e →
     (place_of (state_after w (h ++ e ∷ [])).desk t).waits ≡ Some y → IsMetSince w (h ++ e ∷ []) t y
 since_step w h e t y None was world holds may now = elim (none_step w (state_after w h) e t was) [
-    inl none ↦ let still : (place_of (state_after w (h ++ e ∷ [])).desk t).waits ≡ None = ap (λ s. (place_of s.desk t).waits) (state_after_append w h e) ∙ none in cc
+  | inl none ↦ let still : (place_of (state_after w (h ++ e ∷ [])).desk t).waits ≡ None = ap (λ s. (place_of s.desk t).waits) (state_after_append w h e) ∙ none in cc
   | inr c ↦ begins_since w h e t y c world may now
 ]
 since_step w h e t y (Some x) was world holds may now = goes_unless w h e t x y (is_awake_of t e) refl (holds x was) was may now

@@ -103,7 +103,7 @@ signal_step : (vs : List ℕ) (g f v : ℕ) → f < length vs →
     FenceStep (value_in vs f) (if (g == f) then v ∷ [] else []) (value_in (changed_at (λ _. v) g vs) f)
 unfolding FenceStep
 signal_step vs g f v h = elim (cases_eq g f) [
-    inl e ↦ let yes : (f == f) ≡ true = grind (arith, nat_tests) in rw (e, yes) (inr (ap (λ x. x ∷ []) (sym (value_here v vs f h))))
+  | inl e ↦ let yes : (f == f) ≡ true = grind (arith, nat_tests) in rw (e, yes) (inr (ap (λ x. x ∷ []) (sym (value_here v vs f h))))
   | inr n ↦ let no : (g == f) ≡ false = grind (arith, nat_tests) in rw no (inl (refl, value_other v vs g f n))
 ]
 
@@ -132,8 +132,8 @@ last_from : (w : World) (s : State) (f : ℕ) (es : List Event) → HasShape w s
 last_from w s f [] shape h = refl
 last_from w s f (e ∷ es) shape h =
     last_step (value_of s.desk f) (value_of (after w s e).desk f) (value_of (after_all w (after w s e) es).desk f) (update_of s.desk f e)
-        (updates_from w (after w s e) f es) (fence_step w s e f (rw shape.desk.fences h))
-        (last_from w (after w s e) f es (after_has_shape w s e shape) h)
+    (updates_from w (after w s e) f es) (fence_step w s e f (rw shape.desk.fences h))
+    (last_from w (after w s e) f es (after_has_shape w s e shape) h)
 
 -- the value of a fence is the last applied update
 pub value_is_last : (w : World) (h : List Event) (f : ℕ) → f < length w.fences →

@@ -93,7 +93,7 @@ made_called : (w : World) (d : Desk) (u : ℕ) (c : Call) (t : ℕ) →
     (place_of (desk_or (refusal w d c) (effect w d u c) (after_refused d c)) t).made ≡ (place_of d t).made
 made_called w d u c t =
     made_either (refusal w d c) (effect w d u c) (after_refused d c) t (place_of d t).made
-        (made_effect w d u c t) (ap (λ ps. (place_in ps t).made) (refused_threads d c))
+    (made_effect w d u c t) (ap (λ ps. (place_in ps t).made) (refused_threads d c))
 
 made_operation : (d : Desk) (o : Option Operation) (t : ℕ) → (place_of (desk_after_operation d o) t).made ≡ (place_of d t).made
 made_operation d None t = refl
@@ -137,11 +137,11 @@ made_call : (w : World) (d : Desk) (u : ThreadId) (c : Call) (r : Reply) (t : �
     (place_of (desk_after_call w d u.0 c) t).made ≡ (place_of d t).made + length (calls_by t (event.Call u c r))
 made_call w d u c r t inside (inl e) =
     let here : place_in (changed_at one_more u.0 (desk_or (refusal w d c) (effect w d u.0 c) (after_refused d c)).threads) u.0
-            ≡ one_more (place_of (desk_or (refusal w d c) (effect w d u.0 c) (after_refused d c)) u.0)
-        = changed_here one_more (desk_or (refusal w d c) (effect w d u.0 c) (after_refused d c)).threads u.0 (rw (length_called w d u.0 c) inside) in
+    ≡ one_more (place_of (desk_or (refusal w d c) (effect w d u.0 c) (after_refused d c)) u.0)
+    = changed_here one_more (desk_or (refusal w d c) (effect w d u.0 c) (after_refused d c)).threads u.0 (rw (length_called w d u.0 c) inside) in
     let one : length (calls_by u.0 (event.Call u c r)) ≡ 1 = ap length (calls_by_yes u.0 u c r refl) in
     subst (λ k. (place_of (desk_after_call w d u.0 c) k).made ≡ (place_of d k).made + length (calls_by k (event.Call u c r))) e
-        (ap (λ p. p.made) here ∙ rw (made_called w d u.0 c u.0, one) refl)
+    (ap (λ p. p.made) here ∙ rw (made_called w d u.0 c u.0, one) refl)
 made_call w d u c r t inside (inr n) =
     ap (λ p. p.made) (changed_other one_more (desk_or (refusal w d c) (effect w d u.0 c) (after_refused d c)).threads u.0 t n)
     ∙ made_called w d u.0 c t ∙ rw (ap length (calls_by_no t u c r n)) (omega arith)
@@ -165,10 +165,10 @@ pub made_is_calls : (w : World) (h : List Event) → IsRunButWords w h → (t : 
 made_is_calls w h run = run_induction (λ es. (t : ℕ) → (place_of (state_after w es).desk t).made ≡ length (calls_in t es)) w
     (λ t. first_made w.scripts t)
     (λ es e before holds may t.
-        let moved : (place_of (after w (state_after w es) e).desk t).made ≡ (place_of (state_after w es).desk t).made + length (calls_by t e)
-            = made_step w (state_after w es) e t (run_has_shape w es) may in
-        let was : (place_of (state_after w es).desk t).made ≡ length (calls_in t es) = holds t in
-        rw (state_after_append w es e, calls_in_append t es e, length-append (calls_in t es) (calls_by t e), moved, was) refl)
+    let moved : (place_of (after w (state_after w es) e).desk t).made ≡ (place_of (state_after w es).desk t).made + length (calls_by t e)
+    = made_step w (state_after w es) e t (run_has_shape w es) may in
+    let was : (place_of (state_after w es).desk t).made ≡ length (calls_in t es) = holds t in
+    rw (state_after_append w es e, calls_in_append t es e, length-append (calls_in t es) (calls_by t e), moved, was) refl)
     h run
 
 next_taken : (xs : List Call) (n : ℕ) (c : Call) → slice_get xs n ≡ Some c → take (suc n) xs ≡ take n xs ++ c ∷ []
@@ -186,9 +186,9 @@ follows_more script calls c h e =
 follows_step : (w : World) (s : State) (calls : List Call) (e : Event) (t : ℕ) → May SameButWords w s e → (place_of s.desk t).made ≡ length calls →
     calls ≡ take (length calls) (script_of w t) → calls ++ calls_by t e ≡ take (length (calls ++ calls_by t e)) (script_of w t)
 follows_step w s calls (event.Call u c r) t m made h = elim (cases_eq u.0 t) [
-    inl e ↦ let next : slice_get (script_of w t) (length calls) ≡ Some c
-            = subst (λ n. slice_get (script_of w t) n ≡ Some c) made (subst (λ k. next_call w s.desk k ≡ Some c) e m.1) in
-        rw (calls_by_yes t u c r e) (follows_more (script_of w t) calls c h next)
+  | inl e ↦ let next : slice_get (script_of w t) (length calls) ≡ Some c
+      = subst (λ n. slice_get (script_of w t) n ≡ Some c) made (subst (λ k. next_call w s.desk k ≡ Some c) e m.1) in
+      rw (calls_by_yes t u c r e) (follows_more (script_of w t) calls c h next)
   | inr n ↦ rw (calls_by_no t u c r n, append-nil calls) h
 ]
 follows_step w s calls (event.Awake u) t m made h = rw (append-nil calls) h
@@ -199,5 +199,5 @@ pub runs_follow_scripts : (w : World) (h : List Event) → IsRunButWords w h →
 runs_follow_scripts w h run = run_induction (λ es. (t : ℕ) → calls_in t es ≡ take (length (calls_in t es)) (script_of w t)) w
     (λ t. refl)
     (λ es e before holds may t.
-        rw (calls_in_append t es e) (follows_step w (state_after w es) (calls_in t es) e t may (made_is_calls w es before t) (holds t)))
+    rw (calls_in_append t es e) (follows_step w (state_after w es) (calls_in t es) e t may (made_is_calls w es before t) (holds t)))
     h run

@@ -34,7 +34,7 @@ recorders_changed a f [] i x h = cc
 recorders_changed a f (y ∷ xs) zero x h = let e : x ≡ y = cc in rw e (omega arith)
 recorders_changed a f (y ∷ xs) (suc i) x h =
     let more : recorders a (changed_at f i xs) + one_if (records_from a x) ≡ recorders a xs + one_if (records_from a (f x))
-        = recorders_changed a f xs i x h in
+    = recorders_changed a f xs i x h in
     omega arith
 
 -- the test of one number is the test of all lists
@@ -49,11 +49,11 @@ pub counts_kept : (counts : List ℕ) (f : Listed → Listed) (lists : List List
     ((a : ℕ) → records_from a (f x) ≡ records_from a x) → CountsRecorders counts lists → CountsRecorders counts (changed_at f i lists)
 counts_kept counts f lists i x e same h = record {
   each = λ a l.
-    let moved : recorders a (changed_at f i lists) + one_if (records_from a x) ≡ recorders a lists + one_if (records_from a (f x))
-        = recorders_changed a f lists i x e in
-    let kept : one_if (records_from a (f x)) ≡ one_if (records_from a x) = ap one_if (same a) in
-    let was : get_or counts a 0 ≡ recorders a lists = h.each a l in
-    omega arith;
+      let moved : recorders a (changed_at f i lists) + one_if (records_from a x) ≡ recorders a lists + one_if (records_from a (f x))
+      = recorders_changed a f lists i x e in
+      let kept : one_if (records_from a (f x)) ≡ one_if (records_from a x) = ap one_if (same a) in
+      let was : get_or counts a 0 ≡ recorders a lists = h.each a l in
+      omega arith;
 }
 
 kept_from : (o e : Option Hresult) (what : Record) (x : Listed) (a : ℕ) → records_from a (kept_or o x (recorded_or e what x)) ≡ records_from a x
@@ -72,12 +72,12 @@ pub counts_changed : (counts more : List ℕ) (f : Listed → Listed) (lists : L
     CountsRecorders counts lists → CountsRecorders more (changed_at f i lists)
 counts_changed counts more f lists i x e long moves h = record {
   each = λ a l.
-    let inside : a < length counts = omega arith in
-    let was : get_or counts a 0 ≡ recorders a lists = h.each a inside in
-    let moved : recorders a (changed_at f i lists) + one_if (records_from a x) ≡ recorders a lists + one_if (records_from a (f x))
-        = recorders_changed a f lists i x e in
-    let number : get_or more a 0 + one_if (records_from a x) ≡ get_or counts a 0 + one_if (records_from a (f x)) = moves a inside (sym was) in
-    omega arith;
+      let inside : a < length counts = omega arith in
+      let was : get_or counts a 0 ≡ recorders a lists = h.each a inside in
+      let moved : recorders a (changed_at f i lists) + one_if (records_from a x) ≡ recorders a lists + one_if (records_from a (f x))
+      = recorders_changed a f lists i x e in
+      let number : get_or more a 0 + one_if (records_from a x) ≡ get_or counts a 0 + one_if (records_from a (f x)) = moves a inside (sym was) in
+      omega arith;
 }
 
 -- the list of an id that names one
@@ -114,12 +114,12 @@ length_released (Some b) counts = length_changed (λ n. n - 1) counts b.0
 less_one : (o : Option AllocatorId) (counts : List ℕ) (a : ℕ) → a < length counts → get_or (released o counts) a 0 ≡ get_or counts a 0 - one_if (is_from a o)
 less_one None counts a h = omega arith
 less_one (Some b) counts a h = elim (cases_eq b.0 a) [
-    inl e ↦ let now : get_or (changed_at (λ n. n - 1) a counts) a 0 ≡ get_or counts a 0 - 1 = get_or_changed (λ n. n - 1) counts a 0 h in
-        let yes : (a == a) ≡ true = grind (arith, nat_tests) in
-        rw (e, yes) now
+  | inl e ↦ let now : get_or (changed_at (λ n. n - 1) a counts) a 0 ≡ get_or counts a 0 - 1 = get_or_changed (λ n. n - 1) counts a 0 h in
+      let yes : (a == a) ≡ true = grind (arith, nat_tests) in
+      rw (e, yes) now
   | inr n ↦ let now : get_or (changed_at (λ n. n - 1) b.0 counts) a 0 ≡ get_or counts a 0 = get_or_changed_other (λ n. n - 1) counts b.0 a 0 n in
-        let no : (b.0 == a) ≡ false = grind (arith, nat_tests) in
-        rw no (omega arith)
+      let no : (b.0 == a) ≡ false = grind (arith, nat_tests) in
+      rw no (omega arith)
 ]
 
 -- a list is one of the recorders of its allocator
@@ -133,16 +133,16 @@ pub counts_ended : (counts more : List ℕ) (lists after : List Listed) (l : ℕ
     more ≡ released (recorder_of (list_of lists l)) counts → after ≡ changed_at ended l lists → CountsRecorders counts lists → CountsRecorders more after
 counts_ended counts more lists after l h m e c =
     rw (m, e) (counts_changed counts (released (recorder_of (list_of lists l)) counts) ended lists l (list_of lists l) (list_is lists l h)
-        (length_released (recorder_of (list_of lists l)) counts)
-        (λ a inside was.
-            let less : get_or (released (recorder_of (list_of lists l)) counts) a 0 ≡ get_or counts a 0 - one_if (is_from a (recorder_of (list_of lists l)))
-                = less_one (recorder_of (list_of lists l)) counts a inside in
-            let from : one_if (records_from a (list_of lists l)) ≡ one_if (is_from a (recorder_of (list_of lists l)))
-                = ap one_if (from_recorder a (is_recording (list_of lists l)) (list_of lists l).allocator) in
-            let one : one_if (records_from a (list_of lists l)) ≤ recorders a lists = is_counted a lists l (list_of lists l) (list_is lists l h) in
-            let none : one_if (records_from a (ended (list_of lists l))) ≡ 0 = ap one_if (ended_from a (list_of lists l).error (list_of lists l)) in
-            omega arith)
-        c)
+    (length_released (recorder_of (list_of lists l)) counts)
+    (λ a inside was.
+    let less : get_or (released (recorder_of (list_of lists l)) counts) a 0 ≡ get_or counts a 0 - one_if (is_from a (recorder_of (list_of lists l)))
+    = less_one (recorder_of (list_of lists l)) counts a inside in
+    let from : one_if (records_from a (list_of lists l)) ≡ one_if (is_from a (recorder_of (list_of lists l)))
+    = ap one_if (from_recorder a (is_recording (list_of lists l)) (list_of lists l).allocator) in
+    let one : one_if (records_from a (list_of lists l)) ≤ recorders a lists = is_counted a lists l (list_of lists l) (list_is lists l h) in
+    let none : one_if (records_from a (ended (list_of lists l))) ≡ 0 = ap one_if (ended_from a (list_of lists l).error (list_of lists l)) in
+    omega arith)
+    c)
 
 idle_from : (a : ℕ) (x : Listed) → is_recording x ≡ false → records_from a x ≡ false
 idle_from a x h = rw h refl
@@ -150,14 +150,14 @@ idle_from a x h = rw h refl
 begun_number : (counts : List ℕ) (lists : List Listed) (a b : ℕ) (z : ℕ) → b < length counts → list_any (records_from a) lists ≡ false →
     recorders b lists ≡ get_or counts b 0 → z ≡ 0 → get_or (taken a counts) b 0 + z ≡ get_or counts b 0 + one_if (a == b)
 begun_number counts lists a b z inside free was none = elim (cases_eq a b) [
-    inl e ↦ let now : get_or (changed_at (λ _. 1) b counts) b 0 ≡ 1 = get_or_changed (λ _. 1) counts b 0 inside in
-        let yes : (b == b) ≡ true = grind (arith, nat_tests) in
-        let zero_of : not (recorders b lists == 0) ≡ false = sym (any_records b lists) ∙ subst (λ k. list_any (records_from k) lists ≡ false) e free in
-        let no_one : recorders b lists ≡ 0 = grind (arith, nat_tests) in
-        rw (e, yes) (omega arith)
+  | inl e ↦ let now : get_or (changed_at (λ _. 1) b counts) b 0 ≡ 1 = get_or_changed (λ _. 1) counts b 0 inside in
+      let yes : (b == b) ≡ true = grind (arith, nat_tests) in
+      let zero_of : not (recorders b lists == 0) ≡ false = sym (any_records b lists) ∙ subst (λ k. list_any (records_from k) lists ≡ false) e free in
+      let no_one : recorders b lists ≡ 0 = grind (arith, nat_tests) in
+      rw (e, yes) (omega arith)
   | inr n ↦ let now : get_or (changed_at (λ _. 1) a counts) b 0 ≡ get_or counts b 0 = get_or_changed_other (λ _. 1) counts a b 0 n in
-        let no : (a == b) ≡ false = grind (arith, nat_tests) in
-        rw no (omega arith)
+      let no : (a == b) ≡ false = grind (arith, nat_tests) in
+      rw no (omega arith)
 ]
 
 -- after the beginning of a recording from an allocator that none records from
@@ -166,11 +166,11 @@ pub counts_begun : (counts more : List ℕ) (lists after : List Listed) (l a : �
     more ≡ taken a counts → after ≡ changed_at (λ _. begun a) l lists → CountsRecorders counts lists → CountsRecorders more after
 counts_begun counts more lists after l a h idle free m e c =
     rw (m, e) (counts_changed counts (taken a counts) (λ _. begun a) lists l (list_of lists l) (list_is lists l h)
-        (length_changed (λ _. 1) counts a)
-        (λ b inside was.
-            let none : one_if (records_from b (list_of lists l)) ≡ 0 = ap one_if (idle_from b (list_of lists l) idle) in
-            begun_number counts lists a b (one_if (records_from b (list_of lists l))) inside free was none)
-        c)
+    (length_changed (λ _. 1) counts a)
+    (λ b inside was.
+    let none : one_if (records_from b (list_of lists l)) ≡ 0 = ap one_if (idle_from b (list_of lists l) idle) in
+    begun_number counts lists a b (one_if (records_from b (list_of lists l))) inside free was none)
+    c)
 
 -- no list of a world records at first
 pub none_record : {A : Type 0} (a : ℕ) (xs : List A) → recorders a (map (λ _. declared_list) xs) ≡ 0
@@ -184,7 +184,7 @@ zero_at (x ∷ xs) (suc i) = zero_at xs i
 
 pub counts_declared : {A B : Type 0} (counts : List ℕ) (lists : List Listed) (allocators : List A) (types : List B) →
     counts ≡ map {B = ℕ} (λ _. 0) allocators → lists ≡ map (λ _. declared_list) types → CountsRecorders counts lists
-counts_declared counts lists allocators types c e = rw (c, e) (record { each = λ a l. zero_at allocators a ∙ sym (none_record a types); })
+counts_declared counts lists allocators types c e = rw (c, e) (record { each = λ a l. zero_at allocators a ∙ sym (none_record a types) })
 
 ended_alike : (lists : List Listed) (l : ℕ) (x : Listed) (o : Option Hresult) → slice_get lists l ≡ Some x → x.error ≡ o →
     changed_at ended l lists ≡ lists_or o (changed_at closed l lists) (changed_at failed l lists)
@@ -196,4 +196,4 @@ pub close_is_end : (lists after : List Listed) (l : ℕ) → l < length lists �
     after ≡ changed_at ended l lists → after ≡ lists_after_close lists l
 close_is_end lists after l h r e =
     subst (λ b. after ≡ lists_or (refuse_if (not b) Fail (list_of lists l).error) (changed_at closed l lists) (failed_lists_if b l lists)) (sym r)
-        (e ∙ ended_alike lists l (list_of lists l) (list_of lists l).error (list_is lists l h) refl)
+    (e ∙ ended_alike lists l (list_of lists l) (list_of lists l).error (list_is lists l h) refl)

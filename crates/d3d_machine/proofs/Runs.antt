@@ -58,8 +58,8 @@ from_done : (P : List Event → Type 0) (w : World) →
 from_done P w step done [] run holds p = subst P (sym (append-nil done)) holds
 from_done P w step done (e ∷ rest) run holds p =
     subst P (append_assoc done (e ∷ []) rest)
-        (from_done P w step (done ++ e ∷ []) rest (run_append w done e run p.0) (step done e run holds p.0)
-            (subst (λ s. Plays SameButWords w s rest) (sym (state_after_append w done e)) p.1))
+    (from_done P w step (done ++ e ∷ []) rest (run_append w done e run p.0) (step done e run holds p.0)
+    (subst (λ s. Plays SameButWords w s rest) (sym (state_after_append w done e)) p.1))
 
 -- what holds of no event, and goes on by each event that may come, holds of every run but for words
 pub run_induction : (P : List Event → Type 0) (w : World) → P [] →

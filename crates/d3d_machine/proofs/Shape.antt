@@ -100,7 +100,7 @@ operation_keeps w d (Some (operation.Signal f v)) h = record {
 desk_keeps : (w : World) (d : Desk) (e : Event) → HasLengths w d → HasLengths w (desk_after w d e)
 desk_keeps w d (event.Call t c r) h =
     counted_keeps w t.0 (desk_or (refusal w d c) (effect w d t.0 c) (after_refused d c))
-        (either_keeps w (refusal w d c) (effect w d t.0 c) (after_refused d c) (effect_keeps w d t.0 c h) (refused_keeps w d c h))
+    (either_keeps w (refusal w d c) (effect w d t.0 c) (after_refused d c) (effect_keeps w d t.0 c h) (refused_keeps w d c h))
 desk_keeps w d (event.Awake t) h = woken_keeps w t.0 d h
 desk_keeps w d (event.Queue q) h = operation_keeps w (dropped d q.0) (head_of d q.0) (dropped_keeps w d q.0 h)
 

@@ -115,12 +115,12 @@ gathered_is_short lists (l ∷ ls) h =
     let one : length (list_of lists l).commands ≤ 1024 = h.each l in
     let more : length (gathered lists ls) ≤ 1024 * length ls = gathered_is_short lists ls h in
     let both : length ((list_of lists l).commands ++ gathered lists ls) ≡ length (list_of lists l).commands + length (gathered lists ls)
-        = length-append (list_of lists l).commands (gathered lists ls) in
+    = length-append (list_of lists l).commands (gathered lists ls) in
     omega arith
 
 -- the commands of lists that a run executes
 pub commands_are_few : (w : World) (h : List Event) (ls : List ListId) → length (commands_of (state_after w h).desk.lists ls) ≤ 1024 * length ls
 commands_are_few w h ls =
     let few : length (gathered (state_after w h).desk.lists (map (λ l. l.0) ls)) ≤ 1024 * length (map (λ l. l.0) ls)
-        = gathered_is_short (state_after w h).desk.lists (map (λ l. l.0) ls) (lists_are_short w h) in
+    = gathered_is_short (state_after w h).desk.lists (map (λ l. l.0) ls) (lists_are_short w h) in
     subst (λ n. length (gathered (state_after w h).desk.lists (map (λ l. l.0) ls)) ≤ 1024 * n) (length-map ls (λ l. l.0)) few

@@ -53,7 +53,7 @@ pub other_call : (w : World) (d : Desk) (u : ℕ) (c : Call) (t : ℕ) → u ≢
 other_call w d u c t n =
     changed_other one_more (desk_or (refusal w d c) (effect w d u c) (after_refused d c)).threads u t n
     ∙ either_place (refusal w d c) (effect w d u c) (after_refused d c) t (place_of d t)
-        (effect_other w d u c t n) (ap (λ ps. place_in ps t) (refused_threads d c))
+    (effect_other w d u c t n) (ap (λ ps. place_in ps t) (refused_threads d c))
 
 pub waits_mapped : (f v : ℕ) (ps : List Place) (t : ℕ) → (place_in (map (marked_place f v) ps) t).waits ≡ marked_option f v (place_in ps t).waits
 waits_mapped f v [] t = refl
@@ -63,12 +63,12 @@ waits_mapped f v (p ∷ ps) (suc t) = waits_mapped f v ps t
 -- what one signal does to a wait is what its update does
 signal_marks : (x : Waiting) (g v : ℕ) → marked_wait g v x ≡ marked_by x (if (g == x.fence) then v ∷ [] else [])
 signal_marks x g v = elim (cases_eq g x.fence) [
-    inl e ↦ let yes : (x.fence == g) ≡ true = grind (arith, nat_tests) in
-        let also : (g == x.fence) ≡ true = grind (arith, nat_tests) in
-        rw (yes, also) (ap (λ b. record { fence = x.fence; value = x.value; marked = x.marked || b }) (sym (or_false (nat_le x.value v))))
+  | inl e ↦ let yes : (x.fence == g) ≡ true = grind (arith, nat_tests) in
+      let also : (g == x.fence) ≡ true = grind (arith, nat_tests) in
+      rw (yes, also) (ap (λ b. record { fence = x.fence; value = x.value; marked = x.marked || b }) (sym (or_false (nat_le x.value v))))
   | inr n ↦ let no : (x.fence == g) ≡ false = grind (arith, nat_tests) in
-        let nor : (g == x.fence) ≡ false = grind (arith, nat_tests) in
-        rw (no, nor) refl
+      let nor : (g == x.fence) ≡ false = grind (arith, nat_tests) in
+      rw (no, nor) refl
 ]
 
 operation_marks : (d : Desk) (o : Option Operation) (t : ℕ) (x : Waiting) → (place_of d t).waits ≡ Some x →
@@ -92,7 +92,7 @@ waits_on Same w s (event.Queue q) t x h m sleeps = operation_marks (dropped s.de
 -- a wait begins with the mark that the fence's value gives it
 pub waits_begin : (w : World) (s : State) (u : ThreadId) (f : FenceId) (v : ℕ) (r : Reply) → u.0 < length s.desk.threads →
     (place_of (after w s (event.Call u (call.HostWait f v) r)).desk u.0).waits
-        ≡ Some (record { fence = f.0; value = v; marked = nat_le v (value_of s.desk f.0) })
+    ≡ Some (record { fence = f.0; value = v; marked = nat_le v (value_of s.desk f.0) })
 waits_begin w s u f v r h =
     kept_at (λ p. p.waits) one_more (λ p. refl) (changed_at (begins_wait (value_of s.desk f.0) f.0 v) u.0 s.desk.threads) u.0 u.0
     ∙ ap (λ p. p.waits) (changed_here (begins_wait (value_of s.desk f.0) f.0 v) s.desk.threads u.0 h)
@@ -101,19 +101,19 @@ wait_more : (w : World) (h : List Event) (e : Event) (f v since : ℕ) → since
     marked_by (waiting_at w h f v since) (update_of (state_after w h).desk f e) ≡ waiting_at w (h ++ e ∷ []) f v since
 wait_more w h e f v since l =
     ap (λ b. record { fence = f; value = v; marked = b })
-        (sym (ap (λ us. is_met us since v) (applied_append w h e f) ∙ is_met_more (applied_updates w h f) (update_of (state_after w h).desk f e) since v l))
+    (sym (ap (λ us. is_met us since v) (applied_append w h e f) ∙ is_met_more (applied_updates w h f) (update_of (state_after w h).desk f e) since v l))
 
 -- at the call: the wait is marked where the update that is current then suffices
 pub wait_begins : (w : World) (h : List Event) (u : ThreadId) (f : FenceId) (v : ℕ) (r : Reply) → u.0 < length w.scripts → f.0 < length w.fences →
     (place_of (state_after w (h ++ event.Call u (call.HostWait f v) r ∷ [])).desk u.0).waits
-        ≡ Some (waiting_at w (h ++ event.Call u (call.HostWait f v) r ∷ []) f.0 v (current_update w h f.0))
+    ≡ Some (waiting_at w (h ++ event.Call u (call.HostWait f v) r ∷ []) f.0 v (current_update w h f.0))
 wait_begins w h u f v r thread fence =
     let shape : HasShape w (state_after w h) = run_has_shape w h in
     ap (λ s. (place_of s.desk u.0).waits) (state_after_append w h (event.Call u (call.HostWait f v) r))
     ∙ waits_begin w (state_after w h) u f v r (rw shape.desk.threads thread)
     ∙ ap (λ b. Some (record { fence = f.0; value = v; marked = b }))
-        (sym (ap (λ us. is_met us (current_update w h f.0) v) (applied_append w h (event.Call u (call.HostWait f v) r) f.0 ∙ append-nil (applied_updates w h f.0))
-            ∙ met_at_call w h f.0 v fence))
+    (sym (ap (λ us. is_met us (current_update w h f.0) v) (applied_append w h (event.Call u (call.HostWait f v) r) f.0 ∙ append-nil (applied_updates w h f.0))
+    ∙ met_at_call w h f.0 v fence))
 
 -- from then on: any event but the thread's waking leaves its wait, marked where an update since the call suffices
 pub wait_goes_on : (w : World) (h : List Event) (e : Event) (t f v since : ℕ) → May SameButWords w (state_after w h) e → is_awake_of t e ≡ false →

@@ -71,14 +71,50 @@ impl Call {
         ensures { IfOk result (λ call. call ≡ self.now) }
     {
         Ok(match self {
-            Call::Recording { list, what } => Call::Recording { list: *list, what: *what },
+            Call::Recording { list, what } => Call::Recording {
+                list: *list,
+                what: *what,
+            },
             Call::Close { list } => Call::Close { list: *list },
-            Call::Reset { list, allocator } => Call::Reset { list: *list, allocator: *allocator },
-            Call::Execute { queue, lists } => Call::Execute { queue: *queue, lists: Seq::from_slice(alloc, lists.as_slice())? },
-            Call::Signal { queue, fence, value } => Call::Signal { queue: *queue, fence: *fence, value: *value },
-            Call::HostWait { fence, value } => Call::HostWait { fence: *fence, value: *value },
-            Call::Write { buffer, offset, words } => Call::Write { buffer: *buffer, offset: *offset, words: Seq::from_slice(alloc, words.as_slice())? },
-            Call::Read { buffer, offset, bytes } => Call::Read { buffer: *buffer, offset: *offset, bytes: *bytes },
+            Call::Reset { list, allocator } => Call::Reset {
+                list: *list,
+                allocator: *allocator,
+            },
+            Call::Execute { queue, lists } => Call::Execute {
+                queue: *queue,
+                lists: Seq::from_slice(alloc, lists.as_slice())?,
+            },
+            Call::Signal {
+                queue,
+                fence,
+                value,
+            } => Call::Signal {
+                queue: *queue,
+                fence: *fence,
+                value: *value,
+            },
+            Call::HostWait { fence, value } => Call::HostWait {
+                fence: *fence,
+                value: *value,
+            },
+            Call::Write {
+                buffer,
+                offset,
+                words,
+            } => Call::Write {
+                buffer: *buffer,
+                offset: *offset,
+                words: Seq::from_slice(alloc, words.as_slice())?,
+            },
+            Call::Read {
+                buffer,
+                offset,
+                bytes,
+            } => Call::Read {
+                buffer: *buffer,
+                offset: *offset,
+                bytes: *bytes,
+            },
         })
     }
 }

@@ -79,10 +79,18 @@ fn overlaps(a: u64, b: u64, bytes: u64) -> bool
 }
 
 /// Whether a copy names live buffers, whole words and ranges inside them that do not overlap.
-fn is_copy(world: &World, to: ResourceId, to_offset: u64, from: ResourceId, from_offset: u64, bytes: u64) -> bool
+fn is_copy(
+    world: &World,
+    to: ResourceId,
+    to_offset: u64,
+    from: ResourceId,
+    from_offset: u64,
+    bytes: u64,
+) -> bool
     ensures { result ≡ copy_is_good world.now to.0 to_offset from.0 from_offset bytes }
 {
-    let inside = is_inside(words_in(world, to), to_offset, bytes) && is_inside(words_in(world, from), from_offset, bytes);
+    let inside = is_inside(words_in(world, to), to_offset, bytes)
+        && is_inside(words_in(world, from), from_offset, bytes);
     let apart = to != from || !overlaps(to_offset, from_offset, bytes);
     world.resource(to).is_some() && world.resource(from).is_some() && bytes != 0 && inside && apart
 }
@@ -92,8 +100,18 @@ pub fn argument_error(world: &World, what: Record) -> Option<Hresult>
     ensures { result ≡ error_of_argument world.now what }
 {
     match what {
-        Record::Copy { to, to_offset, from, from_offset, bytes } => {
-            if is_copy(world, to, to_offset, from, from_offset, bytes) { None } else { Some(Hresult::InvalidArg) }
+        Record::Copy {
+            to,
+            to_offset,
+            from,
+            from_offset,
+            bytes,
+        } => {
+            if is_copy(world, to, to_offset, from, from_offset, bytes) {
+                None
+            } else {
+                Some(Hresult::InvalidArg)
+            }
         }
     }
 }
@@ -103,8 +121,18 @@ fn is_upload(world: &World, buffer: ResourceId) -> bool
     ensures { result ≡ host_writes world.now buffer.0 }
 {
     match world.resource(buffer) {
-        Some(Resource::Buffer { home: Home::Upload, words: _ }) => true,
-        Some(Resource::Buffer { home: Home::Readback, words: _ }) => false,
+        Some(
+            Resource::Buffer {
+                home: Home::Upload,
+                words: _,
+            },
+        ) => true,
+        Some(
+            Resource::Buffer {
+                home: Home::Readback,
+                words: _,
+            },
+        ) => false,
         None => false,
     }
 }
@@ -114,8 +142,18 @@ fn is_readback(world: &World, buffer: ResourceId) -> bool
     ensures { result ≡ host_reads world.now buffer.0 }
 {
     match world.resource(buffer) {
-        Some(Resource::Buffer { home: Home::Upload, words: _ }) => false,
-        Some(Resource::Buffer { home: Home::Readback, words: _ }) => true,
+        Some(
+            Resource::Buffer {
+                home: Home::Upload,
+                words: _,
+            },
+        ) => false,
+        Some(
+            Resource::Buffer {
+                home: Home::Readback,
+                words: _,
+            },
+        ) => true,
         None => false,
     }
 }
@@ -132,10 +170,19 @@ fn are_inside(size: u32, offset: u64, words: usize) -> bool
 
 /// Why a host write of so many words is refused, where it is: the buffer is no upload buffer, or the
 /// words are not whole words inside it. The offset is in bytes.
-pub fn write_refusal(world: &World, buffer: ResourceId, offset: u64, words: usize) -> Option<Hresult>
+pub fn write_refusal(
+    world: &World,
+    buffer: ResourceId,
+    offset: u64,
+    words: usize,
+) -> Option<Hresult>
     ensures { result ≡ refusal_of_write world.now buffer.0 offset words }
 {
-    if is_upload(world, buffer) && are_inside(words_in(world, buffer), offset, words) { None } else { Some(Hresult::InvalidArg) }
+    if is_upload(world, buffer) && are_inside(words_in(world, buffer), offset, words) {
+        None
+    } else {
+        Some(Hresult::InvalidArg)
+    }
 }
 
 /// Why a host read is refused, where it is: the buffer is no readback buffer, or the range is empty, or
@@ -143,5 +190,12 @@ pub fn write_refusal(world: &World, buffer: ResourceId, offset: u64, words: usiz
 pub fn read_refusal(world: &World, buffer: ResourceId, offset: u64, bytes: u64) -> Option<Hresult>
     ensures { result ≡ refusal_of_read world.now buffer.0 offset bytes }
 {
-    if is_readback(world, buffer) && bytes != 0 && is_inside(words_in(world, buffer), offset, bytes) { None } else { Some(Hresult::InvalidArg) }
+    if is_readback(world, buffer)
+        && bytes != 0
+        && is_inside(words_in(world, buffer), offset, bytes)
+    {
+        None
+    } else {
+        Some(Hresult::InvalidArg)
+    }
 }

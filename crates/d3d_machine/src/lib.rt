@@ -7,6 +7,8 @@ mod checks;
 mod events;
 mod listed;
 mod lists;
+#[cfg(test)]
+mod tests;
 mod world;
 
 pub use calls::{Call, Record, Reply};

@@ -13,7 +13,7 @@ use crate::calls::Record;
 use crate::checks::argument_error;
 use crate::events::{Command, ListState, Listed};
 use crate::world::World;
-use dx_base::{AllocatorId, Hresult, Memory, Seq, LIST_COMMANDS};
+use dx_base::{AllocatorId, Hresult, LIST_COMMANDS, Memory, Seq};
 use std::alloc::Global;
 
 impl Listed {
@@ -55,14 +55,22 @@ impl Listed {
     pub fn closed(&self) -> Option<&[Command]>
         ensures { option_copied result ≡ closed_commands self.now }
     {
-        if self.is_closed() { Some(self.commands.as_slice()) } else { None }
+        if self.is_closed() {
+            Some(self.commands.as_slice())
+        } else {
+            None
+        }
     }
 
     /// The allocator that the list is recording from.
     pub fn recorder(&self) -> Option<AllocatorId>
         ensures { result ≡ recorder_of self.now }
     {
-        if self.is_recording() { self.allocator } else { None }
+        if self.is_recording() {
+            self.allocator
+        } else {
+            None
+        }
     }
 
     /// Whether the list is recording from that allocator.
@@ -79,7 +87,11 @@ impl Listed {
     fn record_error(&self, world: &World, what: Record) -> Option<Hresult>
         ensures { result ≡ error_of_record world.now self.now what }
     {
-        if self.commands.len() >= LIST_COMMANDS { Some(Hresult::Fail) } else { argument_error(world, what) }
+        if self.commands.len() >= LIST_COMMANDS {
+            Some(Hresult::Fail)
+        } else {
+            argument_error(world, what)
+        }
     }
 
     /// A recording call on a recording list: where it holds an error, none; else the command or the

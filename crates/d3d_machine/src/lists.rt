@@ -84,7 +84,12 @@ impl Lists {
     /// ID3D12GraphicsCommandList::Reset. Fail: the list is recording. InvalidArg: a list records from
     /// the allocator, or the allocator has another type. Takes no memory.
     #[tactic(auto, using(crate::proofs::Recorders::counts_begun))]
-    pub fn reset(&mut self, world: &World, list: ListId, allocator: AllocatorId) -> Result<(), Hresult>
+    pub fn reset(
+        &mut self,
+        world: &World,
+        list: ListId,
+        allocator: AllocatorId,
+    ) -> Result<(), Hresult>
         requires { list.0 < length self.old }
         ensures answer { result_err result ≡ reset_refusal world.now self.old list.0 allocator.0 }
         ensures lists { self.new ≡ lists_after_reset world.now self.old list.0 allocator.0 }
@@ -112,6 +117,13 @@ impl Lists {
         }
     }
 
+    /// How many lists there are.
+    pub fn len(&self) -> usize
+        ensures { result ≡ length self.now }
+    {
+        self.lists.len()
+    }
+
     /// What the list is ready for.
     pub fn state(&self, list: ListId) -> ListState
         requires { list.0 < length self.now }
@@ -130,7 +142,13 @@ impl Lists {
 
     /// The commands that an execution of the lists gives a queue, in order. Fail: a list is not closed,
     /// or has another type than the queue.
-    pub fn gather(&self, alloc: Global, world: &World, queue: QueueId, lists: &[ListId]) -> Result<Result<Seq<Command>, Hresult>, Memory>
+    pub fn gather(
+        &self,
+        alloc: Global,
+        world: &World,
+        queue: QueueId,
+        lists: &[ListId],
+    ) -> Result<Result<Seq<Command>, Hresult>, Memory>
         ensures { IfOk result (λ answer. answer ≡ answer_or (execute_refusal world.now self.now queue.0 lists.now) (commands_of self.now lists.now)) }
     {
         if !are_fit(&self.lists, world, queue, lists) {
@@ -251,14 +269,20 @@ fn take(recorders: &mut Seq<u32>, allocator: AllocatorId)
 fn has_allocators_type(world: &World, list: ListId, allocator: AllocatorId) -> bool
     ensures { result ≡ same_types (slice_get world.now.lists list.0) (slice_get world.now.allocators allocator.0) }
 {
-    are_same_types(world.lists.get(list.0 as usize), world.allocators.get(allocator.0 as usize))
+    are_same_types(
+        world.lists.get(list.0 as usize),
+        world.allocators.get(allocator.0 as usize),
+    )
 }
 
 /// Whether a list has the type of a queue.
 fn has_queues_type(world: &World, list: ListId, queue: QueueId) -> bool
     ensures { result ≡ same_types (slice_get world.now.lists list.0) (slice_get world.now.queues queue.0) }
 {
-    are_same_types(world.lists.get(list.0 as usize), world.queues.get(queue.0 as usize))
+    are_same_types(
+        world.lists.get(list.0 as usize),
+        world.queues.get(queue.0 as usize),
+    )
 }
 
 /// Whether the list of that id is closed, or there is none.
@@ -282,7 +306,9 @@ fn is_fit(lists: &Seq<Listed>, world: &World, queue: QueueId, list: ListId) -> b
 fn are_fit(lists: &Seq<Listed>, world: &World, queue: QueueId, executed: &[ListId]) -> bool
     ensures { result ≡ list_all (λ l. fits world.now lists.now queue.0 l.0) executed.now }
 {
-    executed.iter().all(|list| is_fit(lists, world, queue, *list))
+    executed
+        .iter()
+        .all(|list| is_fit(lists, world, queue, *list))
 }
 
 /// Appends the commands of a list.
@@ -296,7 +322,11 @@ fn gather_one(lists: &Seq<Listed>, list: ListId, commands: &mut Seq<Command>) ->
 }
 
 /// The commands of the lists, in order.
-fn gather_all(alloc: Global, lists: &Seq<Listed>, executed: &[ListId]) -> Result<Seq<Command>, Memory>
+fn gather_all(
+    alloc: Global,
+    lists: &Seq<Listed>,
+    executed: &[ListId],
+) -> Result<Seq<Command>, Memory>
     ensures { IfOk result (λ commands. commands ≡ commands_of lists.now executed.now) }
 {
     let mut commands = Seq::new(alloc);
