@@ -1,5 +1,5 @@
 -- The state of the Vulkan machine after a step, a submission, and an access of the host.
-use Rattle.std.specs.Prelude.{ℕ, zero, suc, ◌+◌, ◌-◌, ◌==◌, Bool, true, false, List, [], ◌∷◌, ◌++◌, length, take, drop, replicate, slice_get, slice_set, slice_index_or, Option, Some, None, if◌then◌else◌}
+use Rattle.std.specs.Prelude.{ℕ, suc, ◌+◌, ◌-◌, ◌==◌, true, false, List, [], ◌∷◌, ◌++◌, length, take, drop, replicate, slice_get, slice_set, slice_index_or, Option, Some, None, if◌then◌else◌}
 use Rattle.dx_base.specs.Lists.{changed_at}
 use Rattle.vk_port.specs.declared.commands.Batch.{Batch}
 use Rattle.vk_port.specs.declared.commands.VkCommand.{VkCommand}
@@ -8,7 +8,7 @@ use Rattle.vk_port.specs.declared.lanes.Lane.{Lane}
 use Rattle.vk_port.specs.declared.lanes.Running.{Running}
 use Rattle.vk_port.specs.declared.steps.Stepped.{Stepped}
 use Rattle.vk_port.specs.declared.steps.Stepped.TheVariants.{Passed, Ran, Bumped, Free}
-use Rattle.vk_port.specs.VkState.{VkState, lane_of, words_of}
+use Rattle.vk_port.specs.VkState.{VkState, lane_of}
 
 -- words with others written into them from one place on; those that would lie past the end are left out
 abbrev pub put : ℕ → List ℕ → List ℕ → List ℕ
