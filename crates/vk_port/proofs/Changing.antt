@@ -1,5 +1,5 @@
 -- A list with one item changed.
-use Rattle.std.proofs.Common.{◌≡◌, ◌≢◌, ℕ, zero, suc, ◌+◌, ◌<◌, ◌≤◌, ◌∙◌, Bool, true, false, ◌&&◌, List, [], ◌∷◌, map, length, get_or, set, refl, sym, ap, arith, inl, inr}
+use Rattle.std.proofs.Common.{◌≡◌, ◌≢◌, ℕ, zero, suc, ◌<◌, Bool, ◌&&◌, List, [], ◌∷◌, map, length, get_or, refl, ap, inl, inr}
 use Rattle.std.specs.List.{list_all}
 use Rattle.std.proofs.lemmas.List.{get_or-set_same, get_or-set_other}
 use Rattle.dx_base.specs.Lists.{changed_at}
@@ -14,8 +14,8 @@ get_changed f k xs d h = rw (changed_is_set f k xs d h, get_or-set_same xs k (f 
 pub get_unchanged : {X : Type 0} (f : X → X) (k : ℕ) (xs : List X) (i : ℕ) (d : X) → i ≢ k → get_or (changed_at f k xs) i d ≡ get_or xs i d
 get_unchanged f k xs i d other =
     elim (cases_lt k (length xs)) as (λ _. get_or (changed_at f k xs) i d ≡ get_or xs i d) [
-      inl h ↦ rw (changed_is_set f k xs d h, get_or-set_other xs k i (f (get_or xs k d)) d other) refl
-    | inr h ↦ rw (changed_past f k xs h) refl
+      | inl h ↦ rw (changed_is_set f k xs d h, get_or-set_other xs k i (f (get_or xs k d)) d other) refl
+      | inr h ↦ rw (changed_past f k xs h) refl
     ]
 
 -- what a change keeps of each item

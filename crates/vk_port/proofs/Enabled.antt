@@ -1,5 +1,5 @@
 -- Each step that can be taken means what it says.
-use Rattle.std.proofs.Common.{◌≡◌, ℕ, zero, suc, ◌+◌, ◌-◌, ◌<◌, ◌≤◌, ◌∙◌, ◌&&◌, Bool, true, false, List, [], ◌∷◌, ◌++◌, length, drop, take, refl, sym, ap, subst, arith, min, true≢false, nat_lt, unwrap_or, Option, Some, None, slice_get, if◌then◌else◌}
+use Rattle.std.proofs.Common.{◌≡◌, ℕ, zero, suc, ◌+◌, ◌-◌, ◌<◌, ◌∙◌, ◌&&◌, Bool, true, false, List, [], ◌∷◌, ◌++◌, length, drop, take, refl, sym, ap, subst, arith, min, true≢false, nat_lt, unwrap_or, Option, Some, None, slice_get, if◌then◌else◌}
 use Rattle.std.specs.List.{AllByRecursion}
 use Rattle.vk_port.specs.declared.commands.VkCommand.{VkCommand}
 use Rattle.vk_port.specs.declared.lanes.Lane.{Lane}
@@ -43,8 +43,8 @@ each_if P true x p = (p refl, tt)
 each_if P false x p = tt
 
 module _ {L : Type 0} (P : Stepped → Type 0) (part : ℕ → L → List Stepped) (whole : ℕ → List L → List Stepped)
-  (none : (q : ℕ) → whole q [] ≡ []) (turn : (q : ℕ) (l : L) (ls : List L) → whole q (l ∷ ls) ≡ part q l ++ whole (q + 1) ls)
-  (all : List L) (each : (q : ℕ) (l : L) → slice_get all q ≡ Some l → AllByRecursion P (part q l)) where
+    (none : (q : ℕ) → whole q [] ≡ []) (turn : (q : ℕ) (l : L) (ls : List L) → whole q (l ∷ ls) ≡ part q l ++ whole (q + 1) ls)
+    (all : List L) (each : (q : ℕ) (l : L) → slice_get all q ≡ Some l → AllByRecursion P (part q l)) where
   -- a fact of each step of each lane
   each_lane : (ls : List L) (q : ℕ) → ls ≡ drop q all → AllByRecursion P (whole q ls)
   each_lane [] q from = subst (AllByRecursion P) (sym (none q)) tt
@@ -81,12 +81,20 @@ module _ (v : VkState) where
     each_command place passed r is (c ∷ cs) (false ∷ done) i before from marks =
         each_append (IsEnabled v) (ready_command q r.batch.number (i + 1) before c) (batch_commands q r.batch.number (i + 1 + 1) (before ++ c ∷ []) cs done)
         (each_if (IsEnabled v) (can_run before c) (Ran q r.batch.number (i + 1)) (λ _.
-          let same : i ≡ i + 1 - 1 = omega arith in
-          record {
-            lane = lane; there = there; place = place; passed = passed; running = r; is_running = is; number = refl; counted = omega arith; command = c;
-            is_command = subst (λ (j : ℕ). slice_get r.batch.commands j ≡ Some c) same (head_at r.batch.commands i c cs from);
-            left = subst (λ (j : ℕ). slice_get r.done j ≡ Some false) same (head_at r.done i false done marks)
-          }))
+        let same : i ≡ i + 1 - 1 = omega arith in
+        record {
+          lane = lane;
+          there = there;
+          place = place;
+          passed = passed;
+          running = r;
+          is_running = is;
+          number = refl;
+          counted = omega arith;
+          command = c;
+          is_command = subst (λ (j : ℕ). slice_get r.batch.commands j ≡ Some c) same (head_at r.batch.commands i c cs from);
+          left = subst (λ (j : ℕ). slice_get r.done j ≡ Some false) same (head_at r.done i false done marks);
+        }))
         (each_command place passed r is cs done (i + 1) (before ++ c ∷ []) (tail_at r.batch.commands i c cs from) (tail_at r.done i false done marks))
 
     -- the commands of the batches that have passed, from a place on
@@ -106,8 +114,8 @@ module _ (v : VkState) where
       each_append (IsEnabled v) (passes v.timelines 0 v.lanes) (commands 0 v.lanes ++ bumps 0 v.lanes)
       (each_lane (IsEnabled v) (ready_pass v.timelines) (passes v.timelines) (λ q. refl) (λ q l ls. refl) v.lanes (λ q l is. each_pass q l is (slice_get l.batches l.passed) refl) v.lanes 0 refl)
       (each_append (IsEnabled v) (commands 0 v.lanes) (bumps 0 v.lanes)
-        (each_lane (IsEnabled v) (λ q lane. lane_commands q [] (take lane.passed lane.batches)) commands (λ q. refl) (λ q l ls. refl) v.lanes (λ q l is. each_batch q l is (take l.passed l.batches) 0 [] refl) v.lanes 0 refl)
-        (each_lane (IsEnabled v) ready_bump bumps (λ q. refl) (λ q l ls. refl) v.lanes (λ q l is. each_bump q l is (slice_get l.batches 0) refl) v.lanes 0 refl))
+      (each_lane (IsEnabled v) (λ q lane. lane_commands q [] (take lane.passed lane.batches)) commands (λ q. refl) (λ q l ls. refl) v.lanes (λ q l is. each_batch q l is (take l.passed l.batches) 0 [] refl) v.lanes 0 refl)
+      (each_lane (IsEnabled v) ready_bump bumps (λ q. refl) (λ q l ls. refl) v.lanes (λ q l is. each_bump q l is (slice_get l.batches 0) refl) v.lanes 0 refl))
 
   -- a step that can be taken means what it says
   pub enabled_means : (k : ℕ) (s : Stepped) → slice_get (enabled_steps v) k ≡ Some s → IsEnabled v s

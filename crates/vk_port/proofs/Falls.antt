@@ -1,6 +1,5 @@
 -- Each step that is taken leaves fewer steps.
-use Rattle.std.proofs.Common.{◌≡◌, ℕ, zero, suc, ◌+◌, ◌-◌, ◌<◌, ◌≤◌, ◌==◌, ◌∙◌, Bool, true, false, ◌&&◌, List, [], ◌∷◌, ◌++◌, map, length, drop, get_or, replicate, set, refl, sym, ap, subst, arith, add-one, eq-eqb, true≢false, Option, Some, None, slice_get, unwrap_or}
-use Rattle.std.specs.List.{list_all}
+use Rattle.std.proofs.Common.{◌≡◌, ℕ, zero, suc, ◌+◌, ◌-◌, ◌<◌, ◌≤◌, ◌==◌, Bool, true, false, List, [], ◌∷◌, ◌++◌, map, length, drop, replicate, set, refl, sym, ap, subst, arith, add-one, eq-eqb, true≢false, Option, Some, slice_get, unwrap_or}
 use Rattle.std.proofs.lemmas.Bool.{ne_eqb, eqb-true, and_parts}
 use Rattle.std.proofs.lemmas.Option.{none-some, slice_get_within, get_or_from_slice_get, slice_get-get_or}
 use Rattle.dx_base.specs.Lists.{changed_at}
@@ -11,7 +10,7 @@ use Rattle.vk_port.specs.declared.lanes.Running.{Running}
 use Rattle.vk_port.specs.declared.steps.Stepped.{Stepped}
 use Rattle.vk_port.specs.declared.steps.Stepped.TheVariants.{Passed, Ran, Bumped, Free}
 use Rattle.vk_port.specs.After.{with_done, place_of, lane_after_run, lane_after_pass, lane_after_bump, started, lane_after_submit, after_step, after_submit}
-use Rattle.vk_port.specs.Enabled.{enabled_steps, undone, unmarked, all_done}
+use Rattle.vk_port.specs.Enabled.{enabled_steps, undone, unmarked}
 use Rattle.vk_port.specs.Journal.{of_queue, first_number, are_numbered}
 use Rattle.vk_port.specs.Left.{batches_left, lanes_left, steps_left}
 use Rattle.vk_port.specs.Meaning.{IsEnabled}
@@ -122,9 +121,9 @@ falls_when v (Ran q n k) valid e =
     let changed : lanes_left (changed_at (lane_after_run n k) q v.lanes) + lane_left e.lane ≡ lanes_left v.lanes + lane_left (lane_after_run n k e.lane) = lanes_changed (lane_after_run n k) q v.lanes e.lane e.there in
     let place : place_of n e.lane.batches ≡ e.place = subst (λ (m : ℕ). place_of m e.lane.batches ≡ e.place) e.number (valid_place v valid q e.lane e.there e.place e.running e.is_running) in
     let less : suc (batches_left e.lane.passed (changed_at (with_done k) e.place e.lane.batches)) ≡ lane_left e.lane =
-        run_left (with_done k) e.lane.passed e.place e.lane.batches e.running e.is_running (unmarked_less e.running.batch.commands e.running.done (k - 1) e.command e.is_command e.left) in
+    run_left (with_done k) e.lane.passed e.place e.lane.batches e.running e.is_running (unmarked_less e.running.batch.commands e.running.done (k - 1) e.command e.is_command e.left) in
     let same : lane_left (lane_after_run n k e.lane) ≡ batches_left e.lane.passed (changed_at (with_done k) e.place e.lane.batches) =
-        ap (λ (i : ℕ). batches_left e.lane.passed (changed_at (with_done k) i e.lane.batches)) place in
+    ap (λ (i : ℕ). batches_left e.lane.passed (changed_at (with_done k) i e.lane.batches)) place in
     omega (arith, changed, less, same)
 falls_when v (Bumped q n) valid e =
     let changed : lanes_left (changed_at lane_after_bump q v.lanes) + lane_left e.lane ≡ lanes_left v.lanes + lane_left (lane_after_bump e.lane) = lanes_changed lane_after_bump q v.lanes e.lane e.there in

@@ -1,5 +1,5 @@
 -- A search through a list that is put together from lists.
-use Rattle.std.proofs.Common.{◌≡◌, ℕ, zero, suc, ◌+◌, ◌<◌, List, [], ◌∷◌, ◌++◌, length, drop, refl, sym, ap, arith, true≢false, Bool, true, false, Some, slice_get}
+use Rattle.std.proofs.Common.{◌≡◌, ℕ, zero, suc, ◌+◌, List, [], ◌∷◌, ◌++◌, length, drop, refl, sym, ap, arith, true≢false, Bool, true, false, Some, slice_get}
 use Rattle.vk_port.specs.declared.found.Found.{Found}
 use Rattle.vk_port.specs.declared.found.Found.TheVariants.{At, Left}
 use Rattle.vk_port.specs.declared.steps.Stepped.{Stepped}
@@ -48,7 +48,7 @@ found_left (x ∷ xs) zero left is = absurd (true≢false (sym (ap is_at is)))
 found_left (x ∷ xs) (suc k) left is = let rest : k ≡ length xs + left = found_left xs k left is in omega (arith, rest)
 
 module _ {L : Type 0} (part : ℕ → L → List Stepped) (whole : ℕ → List L → List Stepped)
-  (turn : (q : ℕ) (l : L) (ls : List L) → whole q (l ∷ ls) ≡ part q l ++ whole (q + 1) ls) where
+    (turn : (q : ℕ) (l : L) (ls : List L) → whole q (l ∷ ls) ≡ part q l ++ whole (q + 1) ls) where
   -- the lists from a place on are the one there and the others
   turned : (ls : List L) (q : ℕ) (l : L) → slice_get ls q ≡ Some l → whole q (drop q ls) ≡ part q l ++ whole (q + 1) (drop (q + 1) ls)
   turned ls q l is = rw (opened ls q l is) (turn q l (drop (q + 1) ls))

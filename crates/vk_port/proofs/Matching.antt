@@ -1,10 +1,9 @@
 -- The state of the Vulkan machine keeps the objects of the plan.
-use Rattle.std.proofs.Common.{◌≡◌, ℕ, ◌+◌, ◌-◌, ◌<◌, ◌≤◌, ◌∙◌, min, true, ◌&&◌, List, [], ◌∷◌, ◌++◌, map, length, drop, take, replicate, refl, sym, ap, arith, nat_lt, Option, Some, None, slice_get, slice_set, slice_index_or}
+use Rattle.std.proofs.Common.{◌≡◌, ℕ, ◌+◌, ◌-◌, ◌<◌, ◌∙◌, min, true, ◌&&◌, List, [], ◌∷◌, ◌++◌, map, length, drop, take, refl, arith, nat_lt, Option, Some, None, slice_set, slice_index_or}
 use Rattle.std.specs.List.{list_all}
 use Rattle.std.proofs.lemmas.Bool.{and_parts, ltb-true}
 use Rattle.std.proofs.lemmas.List.{length-append, length-drop, length-replicate, length-set}
 use Rattle.std.proofs.Math.ListN.{length-take}
-use Rattle.dx_base.specs.Lists.{changed_at}
 use Rattle.vk_port.specs.declared.commands.Batch.{Batch}
 use Rattle.vk_port.specs.declared.commands.VkCommand.{VkCommand}
 use Rattle.vk_port.specs.declared.commands.VkCommand.TheVariants.{Barrier, Copy}
@@ -53,18 +52,21 @@ pub first_matches : (plan : DevicePlan) → Matches plan (first_state plan)
 first_matches plan = record {
   lanes = length-replicate plan.queues no_lane;
   timelines = length-replicate {A = ℕ} plan.timelines 0;
-  buffers = first_buffers plan.buffers
+  buffers = first_buffers plan.buffers;
 }
 
 -- a step keeps the objects of the plan
 pub step_matches : (plan : DevicePlan) (v : VkState) (s : Stepped) → Matches plan v → Matches plan (after_step v s)
 step_matches plan v (Passed q n) is = record { lanes = length_changed lane_after_pass q v.lanes ∙ is.lanes; timelines = is.timelines; buffers = is.buffers }
 step_matches plan v (Ran q n k) is = record {
-  lanes = length_changed (lane_after_run n k) q v.lanes ∙ is.lanes; timelines = is.timelines;
-  buffers = found_kept (command_at n k (lane_of v q).batches) v.words ∙ is.buffers
+  lanes = length_changed (lane_after_run n k) q v.lanes ∙ is.lanes;
+  timelines = is.timelines;
+  buffers = found_kept (command_at n k (lane_of v q).batches) v.words ∙ is.buffers;
 }
 step_matches plan v (Bumped q n) is = record {
-  lanes = length_changed lane_after_bump q v.lanes ∙ is.lanes; timelines = sets_kept (sets_of (lane_of v q)) v.timelines ∙ is.timelines; buffers = is.buffers
+  lanes = length_changed lane_after_bump q v.lanes ∙ is.lanes;
+  timelines = sets_kept (sets_of (lane_of v q)) v.timelines ∙ is.timelines;
+  buffers = is.buffers;
 }
 step_matches plan v Free is = is
 

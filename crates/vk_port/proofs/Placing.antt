@@ -1,5 +1,5 @@
 -- The place of the batch of a number.
-use Rattle.std.proofs.Common.{◌≡◌, ℕ, suc, ◌+◌, ◌==◌, ◌∙◌, Bool, true, false, List, drop, refl, ap, sym, add-zero, add-one, add_assoc, arith, Some, slice_get, eq-eqb, if◌then◌else◌, ◌≢◌}
+use Rattle.std.proofs.Common.{◌≡◌, ℕ, suc, ◌+◌, ◌==◌, ◌∙◌, true, false, List, drop, refl, arith, Some, slice_get, if◌then◌else◌}
 use Rattle.vk_port.specs.declared.lanes.Running.{Running}
 use Rattle.vk_port.specs.After.{place_of}
 use Rattle.vk_port.proofs.Lists.{opened}

@@ -15,8 +15,8 @@ use Rattle.vk_port.proofs.Lists.{get_of_take, drop_of_take}
 use Rattle.vk_port.proofs.Summing.{steps_turn, lane_turn, lane_same}
 
 module _ (q n k : ℕ) (a : Ahead) (cs : List VkCommand) (done : List Bool) (i : ℕ) (d : Bool) (c : VkCommand)
-  (there : slice_get cs i ≡ Some c) (is : slice_get done i ≡ Some d) (marked : d ≡ false)
-  (r : Found) (left : ℕ) (start : r ≡ found (batch_steps q n k a (drop i cs) (drop i done)) left) (ready : Bool) (lets_is : ready ≡ lets a c) where
+    (there : slice_get cs i ≡ Some c) (is : slice_get done i ≡ Some d) (marked : d ≡ false)
+    (r : Found) (left : ℕ) (start : r ≡ found (batch_steps q n k a (drop i cs) (drop i done)) left) (ready : Bool) (lets_is : ready ≡ lets a c) where
   -- the commands behind this one
   abbrev others : List Stepped
   others = batch_steps q n (k + 1) (with_command a c) (drop (i + 1) cs) (drop (i + 1) done)

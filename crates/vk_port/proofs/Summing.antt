@@ -1,6 +1,5 @@
 -- The commands that are not done, one by one and summed up.
-use Rattle.std.proofs.Common.{◌≡◌, ℕ, zero, suc, ◌+◌, ◌<◌, ◌≤◌, ◌==◌, Bool, true, false, not, ◌&&◌, List, [], ◌∷◌, ◌++◌, length, drop, refl, sym, ap, Some, slice_get, arith, inl, inr, append_assoc, min, bit_and, bit_or}
-use Rattle.std.specs.Int.Bits.{and_zero_l, or_zero_l}
+use Rattle.std.proofs.Common.{◌≡◌, ℕ, ◌+◌, ◌<◌, ◌≤◌, ◌==◌, Bool, true, false, not, ◌&&◌, List, [], ◌∷◌, ◌++◌, length, drop, refl, sym, Some, slice_get, arith, inl, inr, min, bit_and, bit_or}
 use Rattle.std.proofs.Math.ListN.{drop_of_length-le}
 use Rattle.std.proofs.Math.Bool.{and_assoc, and-true}
 use Rattle.std.proofs.lemmas.Bool.{cases_lt}
@@ -9,9 +8,9 @@ use Rattle.vk_port.specs.declared.commands.VkCommand.{VkCommand}
 use Rattle.vk_port.specs.declared.commands.VkCommand.TheVariants.{Barrier, Copy}
 use Rattle.vk_port.specs.declared.lanes.Running.{Running}
 use Rattle.vk_port.specs.Ahead.{no_ahead, with_command, summary, lets, command_step, batch_steps, lane_steps}
-use Rattle.vk_port.specs.Enabled.{unmarked, undone, ready_command, batch_commands, lane_commands}
-use Rattle.vk_port.specs.Orders.{orders, can_run, stages_of}
-use Rattle.vk_port.specs.Stages.{whole, copy_stage}
+use Rattle.vk_port.specs.Enabled.{unmarked, undone, batch_commands, lane_commands}
+use Rattle.vk_port.specs.Orders.{orders, can_run}
+use Rattle.vk_port.specs.Stages.{whole}
 use Rattle.vk_port.proofs.Bits.{or_apart}
 use Rattle.vk_port.proofs.Lists.{item_at, opened}
 
@@ -36,8 +35,8 @@ steps_unmarked q n k a (c ∷ cs) = refl
 pub steps_end : (q n k : ℕ) (a : Ahead) (cs : List VkCommand) (done : List Bool) (i : ℕ) → min (length cs) (length done) ≤ i → batch_steps q n k a (drop i cs) (drop i done) ≡ []
 steps_end q n k a cs done i end =
     elim (cases_lt i (length cs)) as (λ _. batch_steps q n k a (drop i cs) (drop i done) ≡ []) [
-      inl h ↦ let past : length done ≤ i = omega (arith, end, h) in rw (drop_of_length-le done {i = i} past) (steps_unmarked q n k a (drop i cs))
-    | inr h ↦ rw (drop_of_length-le cs {i = i} h) refl
+      | inl h ↦ let past : length done ≤ i = omega (arith, end, h) in rw (drop_of_length-le done {i = i} past) (steps_unmarked q n k a (drop i cs))
+      | inr h ↦ rw (drop_of_length-le cs {i = i} h) refl
     ]
 
 -- a command that is done is not summed up
@@ -61,8 +60,8 @@ unmarked_none (c ∷ cs) = refl
 pub summary_end : (a : Ahead) (cs : List VkCommand) (done : List Bool) (i : ℕ) → min (length cs) (length done) ≤ i → summary a (unmarked (drop i cs) (drop i done)) ≡ a
 summary_end a cs done i end =
     elim (cases_lt i (length cs)) as (λ _. summary a (unmarked (drop i cs) (drop i done)) ≡ a) [
-      inl h ↦ let past : length done ≤ i = omega (arith, end, h) in rw (drop_of_length-le done {i = i} past, unmarked_none (drop i cs)) refl
-    | inr h ↦ rw (drop_of_length-le cs {i = i} h) refl
+      | inl h ↦ let past : length done ≤ i = omega (arith, end, h) in rw (drop_of_length-le done {i = i} past, unmarked_none (drop i cs)) refl
+      | inr h ↦ rw (drop_of_length-le cs {i = i} h) refl
     ]
 
 -- tests in another order

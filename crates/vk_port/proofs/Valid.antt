@@ -1,5 +1,5 @@
 -- The state of the Vulkan machine stays valid.
-use Rattle.std.proofs.Common.{◌≡◌, ◌≢◌, ℕ, zero, suc, ◌+◌, ◌-◌, ◌<◌, ◌≤◌, ◌==◌, ◌∙◌, Bool, true, false, ◌&&◌, List, [], ◌∷◌, ◌++◌, map, length, drop, get_or, replicate, set, refl, sym, ap, subst, arith, inl, inr, eq-eqb, true≢false, if◌then◌else◌, Some, slice_get, slice_set, eqb}
+use Rattle.std.proofs.Common.{◌≡◌, ℕ, ◌+◌, ◌-◌, ◌<◌, ◌≤◌, ◌==◌, ◌∙◌, Bool, true, false, List, [], ◌∷◌, ◌++◌, length, drop, get_or, replicate, refl, sym, ap, subst, arith, inl, inr, eq-eqb}
 use Rattle.std.specs.List.{list_all, drop-map}
 use Rattle.std.proofs.lemmas.Bool.{cases_lt, cases_eq, cases_Bool, ne_eqb, eqb-true, and_parts, and_from}
 use Rattle.std.proofs.lemmas.List.{append-nil, drop-drop, length-drop, length-map, length-append, drop-append-le, length-replicate, get_or-replicate, get_or_past, map-append, length-set}
@@ -8,7 +8,6 @@ use Rattle.std.proofs.lemmas.Option.{slice_get_within, get_or_from_slice_get}
 use Rattle.dx_base.specs.Lists.{changed_at}
 use Rattle.vk_port.specs.declared.commands.Batch.{Batch}
 use Rattle.vk_port.specs.declared.lanes.Lane.{Lane}
-use Rattle.vk_port.specs.declared.lanes.Running.{Running}
 use Rattle.vk_port.specs.declared.plan.DevicePlan.{DevicePlan}
 use Rattle.vk_port.specs.declared.steps.Stepped.{Stepped}
 use Rattle.vk_port.specs.declared.steps.Stepped.TheVariants.{Passed, Ran, Bumped, Free}
@@ -24,14 +23,14 @@ use Rattle.vk_port.proofs.Lists.{length_changed, changed_past}
 pub each_changed : (P : ℕ → Lane → Type 0) (f : Lane → Lane) (q : ℕ) (lanes : List Lane) → ((i : ℕ) → P i (get_or lanes i no_lane)) → (q < length lanes → P q (f (get_or lanes q no_lane))) → (i : ℕ) → P i (get_or (changed_at f q lanes) i no_lane)
 each_changed P f q lanes each one i =
     elim (cases_lt q (length lanes)) as (λ _. P i (get_or (changed_at f q lanes) i no_lane)) [
-      inr past ↦ subst (λ (ls : List Lane). P i (get_or ls i no_lane)) (sym (changed_past f q lanes past)) (each i)
-    | inl within ↦
-        elim (cases_eq i q) as (λ _. P i (get_or (changed_at f q lanes) i no_lane)) [
-          inl same ↦
-            let here : P q (get_or (changed_at f q lanes) q no_lane) = subst (P q) (sym (get_changed f q lanes no_lane within)) (one within) in
-            subst (λ (j : ℕ). P j (get_or (changed_at f q lanes) j no_lane)) (sym same) here
-        | inr other ↦ subst (P i) (sym (get_unchanged f q lanes i no_lane other)) (each i)
-        ]
+      | inr past ↦ subst (λ (ls : List Lane). P i (get_or ls i no_lane)) (sym (changed_past f q lanes past)) (each i)
+      | inl within ↦
+          elim (cases_eq i q) as (λ _. P i (get_or (changed_at f q lanes) i no_lane)) [
+            | inl same ↦
+                let here : P q (get_or (changed_at f q lanes) q no_lane) = subst (P q) (sym (get_changed f q lanes no_lane within)) (one within) in
+                subst (λ (j : ℕ). P j (get_or (changed_at f q lanes) j no_lane)) (sym same) here
+            | inr other ↦ subst (P i) (sym (get_unchanged f q lanes i no_lane other)) (each i)
+          ]
     ]
 
 -- a test of each item is one of each but the first
@@ -47,10 +46,11 @@ module _ (bs : List Batch) (lane : Lane) (is : IsLane bs lane) where
   -- one more command is done
   run_kept : (n k : ℕ) → IsLane bs (lane_after_run n k lane)
   run_kept n k = record {
-    finished = is.finished; ended = is.ended;
+    finished = is.finished;
+    ended = is.ended;
     are_last = map_changed batch_of (with_done k) (place_of n lane.batches) lane.batches (λ _. refl) ∙ is.are_last;
     passed = rw (length_changed (with_done k) (place_of n lane.batches) lane.batches) is.passed;
-    marked = all_changed is_marked (with_done k) (place_of n lane.batches) lane.batches (λ r. ap (λ (m : ℕ). m == length r.batch.commands) (length-set r.done (k - 1) true)) ∙ is.marked
+    marked = all_changed is_marked (with_done k) (place_of n lane.batches) lane.batches (λ r. ap (λ (m : ℕ). m == length r.batch.commands) (length-set r.done (k - 1) true)) ∙ is.marked;
   }
 
   -- how many batches are not finished
@@ -67,7 +67,7 @@ module _ (bs : List Batch) (lane : Lane) (is : IsLane bs lane) where
         ended = omega arith;
         are_last = sym (drop-map batch_of 1 lane.batches) ∙ ap (drop 1) is.are_last ∙ drop-drop 1 is.finished bs;
         passed = let within : lane.passed ≤ length lane.batches = is.passed in omega (arith, less, within);
-        marked = all_dropped is_marked lane.batches is.marked
+        marked = all_dropped is_marked lane.batches is.marked;
       }
 
   -- a batch was submitted to the queue
@@ -82,7 +82,7 @@ module _ (bs : List Batch) (lane : Lane) (is : IsLane bs lane) where
         ended = omega (arith, more, ended);
         are_last = map-append batch_of lane.batches (started b ∷ []) ∙ ap (λ (xs : List Batch). xs ++ b ∷ []) is.are_last ∙ sym (drop-append-le is.finished bs (b ∷ []) ended);
         passed = omega (arith, longer, passed);
-        marked = rw (list_all-append is_marked lane.batches (started b ∷ []), is.marked, length-replicate {A = Bool} (length b.commands) false, eq-eqb (length b.commands) (length b.commands) refl) refl
+        marked = rw (list_all-append is_marked lane.batches (started b ∷ []), is.marked, length-replicate {A = Bool} (length b.commands) false, eq-eqb (length b.commands) (length b.commands) refl) refl;
       }
 
 -- the batches of a queue among more batches
@@ -90,8 +90,8 @@ of_queue_append : (q : ℕ) (xs ys : List Batch) → of_queue q (xs ++ ys) ≡ o
 of_queue_append q [] ys = refl
 of_queue_append q (x ∷ xs) ys =
     elim (cases_Bool (x.queue == q)) as (λ _. of_queue q (x ∷ xs ++ ys) ≡ of_queue q (x ∷ xs) ++ of_queue q ys) [
-      inl same ↦ rw (same, of_queue_append q xs ys) refl
-    | inr other ↦ rw (other, of_queue_append q xs ys) refl
+      | inl same ↦ rw (same, of_queue_append q xs ys) refl
+      | inr other ↦ rw (other, of_queue_append q xs ys) refl
     ]
 
 -- the batches of the queue to which one was submitted
@@ -115,15 +115,15 @@ numbered_more n (x ∷ xs) b numbered next =
 first_lane : (n i : ℕ) → get_or (replicate n no_lane) i no_lane ≡ no_lane
 first_lane n i =
     elim (cases_lt i n) as (λ _. get_or (replicate n no_lane) i no_lane ≡ no_lane) [
-      inl within ↦ get_or-replicate n i no_lane no_lane within
-    | inr past ↦ get_or_past (replicate n no_lane) i no_lane (rw (length-replicate n no_lane) past)
+      | inl within ↦ get_or-replicate n i no_lane no_lane within
+      | inr past ↦ get_or_past (replicate n no_lane) i no_lane (rw (length-replicate n no_lane) past)
     ]
 
 -- the first state is valid
 pub first_valid : (plan : DevicePlan) → IsValid (first_state plan)
 first_valid plan = record {
   lanes = λ i. subst (IsLane []) (sym (first_lane plan.queues i)) (record { finished = 0; ended = omega arith; are_last = refl; passed = omega arith; marked = refl });
-  numbered = λ _. refl
+  numbered = λ _. refl;
 }
 
 -- a step that can be taken keeps a state valid
@@ -133,18 +133,18 @@ step_valid v (Passed q n) e valid =
     let some : (lane_of v q).passed < length (lane_of v q).batches = subst (λ (lane : Lane). lane.passed < length lane.batches) (sym same) (slice_get_within e.lane.batches e.lane.passed e.next e.is_next) in
     record {
       lanes = each_changed (λ i lane. IsLane (of_queue i v.journal) lane) lane_after_pass q v.lanes valid.lanes (λ _. pass_kept (of_queue q v.journal) (lane_of v q) (valid.lanes q) some);
-      numbered = valid.numbered
+      numbered = valid.numbered;
     }
 step_valid v (Ran q n k) e valid = record {
   lanes = each_changed (λ i lane. IsLane (of_queue i v.journal) lane) (lane_after_run n k) q v.lanes valid.lanes (λ _. run_kept (of_queue q v.journal) (lane_of v q) (valid.lanes q) n k);
-  numbered = valid.numbered
+  numbered = valid.numbered;
 }
 step_valid v (Bumped q n) e valid =
     let same : lane_of v q ≡ e.lane = get_or_from_slice_get v.lanes q e.lane no_lane e.there in
     let some : 0 < length (lane_of v q).batches = subst (λ (lane : Lane). 0 < length lane.batches) (sym same) (slice_get_within e.lane.batches 0 e.first e.is_first) in
     record {
       lanes = each_changed (λ i lane. IsLane (of_queue i v.journal) lane) lane_after_bump q v.lanes valid.lanes (λ _. bump_kept (of_queue q v.journal) (lane_of v q) (valid.lanes q) some);
-      numbered = valid.numbered
+      numbered = valid.numbered;
     }
 step_valid v Free e valid = valid
 
@@ -152,21 +152,21 @@ step_valid v Free e valid = valid
 pub submit_valid : (v : VkState) (b : Batch) → b.queue < length v.lanes → b.number ≡ next_number b.queue v.journal → IsValid v → IsValid (after_submit v b)
 submit_valid v b within number valid = record {
   lanes = λ i.
-    elim (cases_eq i b.queue) as (λ _. IsLane (of_queue i (v.journal ++ b ∷ [])) (get_or (changed_at (lane_after_submit b) b.queue v.lanes) i no_lane)) [
-      inl same ↦
-        let there : IsLane (of_queue b.queue (v.journal ++ b ∷ [])) (get_or (changed_at (lane_after_submit b) b.queue v.lanes) b.queue no_lane) =
+      elim (cases_eq i b.queue) as (λ _. IsLane (of_queue i (v.journal ++ b ∷ [])) (get_or (changed_at (lane_after_submit b) b.queue v.lanes) i no_lane)) [
+        | inl same ↦
+            let there : IsLane (of_queue b.queue (v.journal ++ b ∷ [])) (get_or (changed_at (lane_after_submit b) b.queue v.lanes) b.queue no_lane) =
             rw (of_same_queue b v.journal, get_changed (lane_after_submit b) b.queue v.lanes no_lane within) (submit_kept (of_queue b.queue v.journal) (lane_of v b.queue) (valid.lanes b.queue) b) in
-        subst (λ (j : ℕ). IsLane (of_queue j (v.journal ++ b ∷ [])) (get_or (changed_at (lane_after_submit b) b.queue v.lanes) j no_lane)) (sym same) there
-    | inr other ↦ rw (of_other_queue i b v.journal other, get_unchanged (lane_after_submit b) b.queue v.lanes i no_lane other) (valid.lanes i)
-    ];
+            subst (λ (j : ℕ). IsLane (of_queue j (v.journal ++ b ∷ [])) (get_or (changed_at (lane_after_submit b) b.queue v.lanes) j no_lane)) (sym same) there
+        | inr other ↦ rw (of_other_queue i b v.journal other, get_unchanged (lane_after_submit b) b.queue v.lanes i no_lane other) (valid.lanes i)
+      ];
   numbered = λ i.
-    elim (cases_eq i b.queue) as (λ _. are_numbered (first_number i) (of_queue i (v.journal ++ b ∷ [])) ≡ true) [
-      inl same ↦
-        let there : are_numbered (first_number b.queue) (of_queue b.queue (v.journal ++ b ∷ [])) ≡ true =
+      elim (cases_eq i b.queue) as (λ _. are_numbered (first_number i) (of_queue i (v.journal ++ b ∷ [])) ≡ true) [
+        | inl same ↦
+            let there : are_numbered (first_number b.queue) (of_queue b.queue (v.journal ++ b ∷ [])) ≡ true =
             rw (of_same_queue b v.journal) (numbered_more (first_number b.queue) (of_queue b.queue v.journal) b (valid.numbered b.queue) number) in
-        subst (λ (j : ℕ). are_numbered (first_number j) (of_queue j (v.journal ++ b ∷ [])) ≡ true) (sym same) there
-    | inr other ↦ rw (of_other_queue i b v.journal other) (valid.numbered i)
-    ]
+            subst (λ (j : ℕ). are_numbered (first_number j) (of_queue j (v.journal ++ b ∷ [])) ≡ true) (sym same) there
+        | inr other ↦ rw (of_other_queue i b v.journal other) (valid.numbered i)
+      ];
 }
 
 -- an access of the host keeps a state valid

@@ -1,5 +1,5 @@
 -- The state of the Vulkan machine after a step, a submission, and an access of the host.
-use Rattle.std.specs.Prelude.{ℕ, zero, suc, ◌+◌, ◌-◌, ◌==◌, Bool, true, false, List, [], ◌∷◌, ◌++◌, length, take, drop, replicate, slice_get, slice_set, slice_index_or, Option, Some, None, if◌then◌else◌}
+use Rattle.std.specs.Prelude.{ℕ, suc, ◌+◌, ◌-◌, ◌==◌, true, false, List, [], ◌∷◌, ◌++◌, length, take, drop, replicate, slice_get, slice_set, slice_index_or, Option, Some, None, if◌then◌else◌}
 use Rattle.dx_base.specs.Lists.{changed_at}
 pub use Rattle.dx_base.specs.Lists.{put, range_of}
 use Rattle.vk_port.specs.declared.commands.Batch.{Batch}
@@ -9,7 +9,7 @@ use Rattle.vk_port.specs.declared.lanes.Lane.{Lane}
 use Rattle.vk_port.specs.declared.lanes.Running.{Running}
 use Rattle.vk_port.specs.declared.steps.Stepped.{Stepped}
 use Rattle.vk_port.specs.declared.steps.Stepped.TheVariants.{Passed, Ran, Bumped, Free}
-use Rattle.vk_port.specs.VkState.{VkState, lane_of, words_of}
+use Rattle.vk_port.specs.VkState.{VkState, lane_of}
 
 -- the words of all buffers after a command: a copy (Vulkan 1.3, 19.2) writes those of its words that lie inside
 -- both buffers, a barrier none

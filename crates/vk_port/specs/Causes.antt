@@ -1,5 +1,5 @@
 -- Why a device answers that it is lost.
-use Rattle.std.specs.Prelude.{ℕ, ⊤, ◌≡◌, Result, Ok, Err}
+use Rattle.std.specs.Prelude.{ℕ, ⊤, Result, Ok, Err}
 use Rattle.dx_base.specs.Faults.{HasRisen}
 use Rattle.vk_port.specs.declared.faults.DeviceFault.{DeviceFault}
 use Rattle.vk_port.specs.declared.faults.DeviceFault.TheVariants.{Lost, Memory}

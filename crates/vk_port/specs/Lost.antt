@@ -1,5 +1,5 @@
 -- Which calls of a device are lost.
-use Rattle.std.specs.Prelude.{ℕ, ◌+◌, ◌-◌, ◌^◌, ◌==◌, ◌&&◌, min, Bool, nat_lt, List}
+use Rattle.std.specs.Prelude.{ℕ, ◌+◌, ◌-◌, ◌^◌, ◌==◌, ◌&&◌, min, Bool, nat_lt}
 use Rattle.std.specs.List.{list_any}
 use Rattle.vk_port.specs.declared.calls.Calls.{Calls}
 

@@ -1,5 +1,5 @@
 -- What the Vulkan machine has seen of a device.
-use Rattle.std.specs.Prelude.{ℕ, List, [], Option, Some, None}
+use Rattle.std.specs.Prelude.{[], Option, Some, None}
 use Rattle.vk_port.specs.declared.kept.Note.{Note}
 use Rattle.vk_port.specs.declared.kept.Note.TheVariants.{Create, Submit, Step, HostWrite, HostRead}
 use Rattle.vk_port.specs.declared.plan.DevicePlan.{DevicePlan}

@@ -1,5 +1,5 @@
 -- What a device stores, as the Vulkan machine sees it, and when a step can be taken.
-use Rattle.std.specs.Prelude.{ℕ, ◌<◌, length, ⊤}
+use Rattle.std.specs.Prelude.{◌<◌, length, ⊤}
 use Rattle.vk_port.specs.declared.steps.Stepped.{Stepped}
 use Rattle.vk_port.specs.declared.steps.Stepped.TheVariants.{Passed, Ran, Bumped, Free}
 use Rattle.vk_port.specs.declared.store.Store.{Store}

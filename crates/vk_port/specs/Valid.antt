@@ -1,5 +1,5 @@
 -- What every state of the Vulkan machine keeps.
-use Rattle.std.specs.Prelude.{ℕ, ◌≡◌, ◌≤◌, ◌<◌, ◌==◌, Bool, true, List, map, length, drop}
+use Rattle.std.specs.Prelude.{ℕ, ◌≡◌, ◌≤◌, ◌==◌, Bool, true, List, map, length, drop}
 use Rattle.std.specs.List.{list_all}
 use Rattle.vk_port.specs.declared.commands.Batch.{Batch}
 use Rattle.vk_port.specs.declared.lanes.Lane.{Lane}

@@ -1,5 +1,5 @@
 -- The state of the Vulkan machine.
-use Rattle.std.specs.Prelude.{ℕ, List, [], map, replicate, length, slice_index_or}
+use Rattle.std.specs.Prelude.{ℕ, List, [], map, replicate, slice_index_or}
 use Rattle.vk_port.specs.declared.commands.Batch.{Batch}
 use Rattle.vk_port.specs.declared.lanes.Lane.{Lane}
 use Rattle.vk_port.specs.declared.plan.DevicePlan.{DevicePlan}

@@ -7,29 +7,24 @@ ghost use Rattle.vk_port.specs.Laws.{EachMeans, EachFalls, SubmissionsAdd, Stays
 /// queue, has passed, and all its commands are done.
 pub fn each_step_means_what_it_says()
     ensures { EachMeans }
-{
-}
+{}
 
 /// Each step that is taken leaves fewer steps.
 pub fn each_step_leaves_fewer()
     ensures { EachFalls }
-{
-}
+{}
 
 /// A batch that is submitted adds a pass, an end, and a step for each of its commands.
 pub fn a_submission_adds_its_steps()
     ensures { SubmissionsAdd }
-{
-}
+{}
 
 /// The first state is valid, and each thing that is done keeps a state valid.
 pub fn states_stay_valid()
     ensures { StaysValid }
-{
-}
+{}
 
 /// The first state has the objects of its plan, and each thing that is done keeps them.
 pub fn states_keep_their_objects()
     ensures { StaysMatched }
-{
-}
+{}

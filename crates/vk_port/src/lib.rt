@@ -26,7 +26,10 @@ pub use device::VkDevice;
 pub use faults::DeviceFault;
 pub use flags::{Accesses, Stages};
 pub use lanes::{Lane, Running};
-pub use laws::{a_submission_adds_its_steps, each_step_leaves_fewer, each_step_means_what_it_says, states_keep_their_objects, states_stay_valid};
+pub use laws::{
+    a_submission_adds_its_steps, each_step_leaves_fewer, each_step_means_what_it_says,
+    states_keep_their_objects, states_stay_valid,
+};
 pub use plain::PlainDevice;
 pub use plan::{DevicePlan, PlanBuffer};
 pub use sets::{NoSets, Sets};

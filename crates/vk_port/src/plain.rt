@@ -1,6 +1,7 @@
 //! A device without caches and without free steps.
 
 ghost use Rattle.std.specs.Prelude.{◌≡◌, IfSome};
+ghost use Rattle.vk_port.specs.Tied.{IsTied};
 
 use crate::calls::Calls;
 use crate::commands::Batch;
@@ -16,8 +17,6 @@ use crate::timelines::value_of;
 use crate::words::copy_at;
 use dx_base::Seq;
 use std::alloc::Global;
-
-ghost use Rattle.vk_port.specs.Tied.{IsTied};
 
 /// A device without caches and without free steps: a command's step does its accesses at once.
 #[derive(Drop)]

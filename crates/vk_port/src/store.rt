@@ -149,7 +149,10 @@ impl Store {
         ensures state { state_of self.new ≡ record (state_of self.old) { timelines = after_sets (sets_of (lane_of (state_of self.old) queue)) self.old.timelines; lanes = changed_at lane_after_bump queue self.old.lanes } }
         ensures queues { self.new.queues ≡ self.old.queues }
     {
-        set_timelines(&mut self.timelines, &self.lanes.at(queue as usize).batches.at(0).batch.sets);
+        set_timelines(
+            &mut self.timelines,
+            &self.lanes.at(queue as usize).batches.at(0).batch.sets,
+        );
         queues::bump(&mut self.lanes, queue);
     }
 

@@ -21,7 +21,10 @@ pub fn value_of(timelines: &Seq<u64>, timeline: u32) -> u64
 pub fn are_reached(timelines: &Seq<u64>, waits: &Seq<(u32, u64)>) -> bool
     ensures { result ≡ reached timelines.now waits.now }
 {
-    waits.as_slice().iter().all(|wait| wait.1 <= value_of(timelines, wait.0))
+    waits
+        .as_slice()
+        .iter()
+        .all(|wait| wait.1 <= value_of(timelines, wait.0))
 }
 
 /// Sets timelines.

@@ -39,7 +39,13 @@ fn copy_of(alloc: Global, words: &Seq<u32>, first: u32, count: u32) -> Result<Ve
 }
 
 /// A copy of words of one of some buffers; of none, where it is not there.
-pub fn copy_at(alloc: Global, buffers: &Seq<Seq<u32>>, buffer: u32, first: u32, count: u32) -> Result<Vec<u32>, Memory>
+pub fn copy_at(
+    alloc: Global,
+    buffers: &Seq<Seq<u32>>,
+    buffer: u32,
+    first: u32,
+    count: u32,
+) -> Result<Vec<u32>, Memory>
     ensures { IfOk result (λ copy. copy.items ≡ range_of first count (slice_index_or buffers.now buffer [])) }
 {
     if (buffer as usize) < buffers.len() {
@@ -71,7 +77,11 @@ fn run_command(alloc: Global, buffers: &mut Seq<Seq<u32>>, command: VkCommand) -
 }
 
 /// Does a command, if there is one.
-pub fn run_found(alloc: Global, buffers: &mut Seq<Seq<u32>>, command: Option<VkCommand>) -> Result<(), Memory>
+pub fn run_found(
+    alloc: Global,
+    buffers: &mut Seq<Seq<u32>>,
+    command: Option<VkCommand>,
+) -> Result<(), Memory>
     ensures ok { OnOk result (buffers.new ≡ after_found command buffers.old) }
     ensures same { OnErr result (buffers.new ≡ buffers.old) }
 {

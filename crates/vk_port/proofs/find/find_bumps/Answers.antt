@@ -1,7 +1,6 @@
 -- Each turn searches one lane.
-use Rattle.std.proofs.Common.{◌≡◌, [], take, refl}
+use Rattle.std.proofs.Common.{refl}
 use Rattle.vk_port.specs.Enabled.{ready_bump, bumps}
-use Rattle.vk_port.specs.Found.{found}
 use Rattle.vk_port.proofs.Finding.{turn_ends, turn_goes_on}
 use Rattle.vk_port.proofs.find.find_bumps.Goals as goal
 

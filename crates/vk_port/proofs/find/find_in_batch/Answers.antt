@@ -1,5 +1,5 @@
 -- Each turn searches one command that is not done.
-use Rattle.std.proofs.Common.{◌≡◌, ◌<◌, ◌+◌, ◌∙◌, length, arith, sym, ap}
+use Rattle.std.proofs.Common.{◌<◌, ◌+◌, ◌∙◌, length, arith, sym, ap}
 use Rattle.vk_port.specs.Found.{found}
 use Rattle.vk_port.proofs.Searching.{batch_ends, batch_goes_on}
 use Rattle.vk_port.proofs.Summing.{steps_skip, steps_end}

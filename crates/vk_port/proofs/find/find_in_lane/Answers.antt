@@ -1,5 +1,5 @@
 -- Each turn searches one batch.
-use Rattle.std.proofs.Common.{◌<◌, min, arith}
+use Rattle.std.proofs.Common.{arith}
 use Rattle.vk_port.proofs.Searching.{lane_ends, lane_goes_on, lane_through}
 use Rattle.vk_port.proofs.find.find_in_lane.Goals as goal
 

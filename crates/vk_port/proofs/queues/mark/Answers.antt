@@ -1,5 +1,4 @@
 -- The lane that was read is written back.
-use Rattle.std.proofs.Common.{◌<◌, length, arith}
 use Rattle.vk_port.specs.After.{lane_after_run}
 use Rattle.vk_port.proofs.Lists.{written_back}
 use Rattle.vk_port.proofs.queues.mark.Goals as goal

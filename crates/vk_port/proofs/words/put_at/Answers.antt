@@ -1,5 +1,5 @@
 -- The buffer that was read is written back.
-use Rattle.std.proofs.Common.{◌<◌, ◌≤◌, length, arith, sym}
+use Rattle.std.proofs.Common.{arith, sym}
 use Rattle.vk_port.specs.After.{put}
 use Rattle.vk_port.proofs.Lists.{written_back, changed_past}
 use Rattle.vk_port.proofs.words.put_at.Goals as goal

@@ -1,5 +1,5 @@
 -- Each turn sums up one command.
-use Rattle.std.proofs.Common.{◌≡◌, ◌<◌, ◌∙◌, length, min, arith, sym}
+use Rattle.std.proofs.Common.{◌<◌, ◌∙◌, length, arith, sym}
 use Rattle.vk_port.proofs.Summing.{summary_skip, summary_turn, summary_end}
 use Rattle.vk_port.proofs.ahead.Ahead.with_undone.Goals as goal
 

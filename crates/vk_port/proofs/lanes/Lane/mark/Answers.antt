@@ -1,7 +1,6 @@
 -- The batch that was read is written back.
-use Rattle.std.proofs.Common.{◌≡◌, ◌<◌, ◌≤◌, length, slice_set, arith, sym, ap, refl}
-use Rattle.dx_base.specs.Lists.{changed_at}
-use Rattle.vk_port.specs.After.{with_done, place_of}
+use Rattle.std.proofs.Common.{arith, refl}
+use Rattle.vk_port.specs.After.{with_done}
 use Rattle.vk_port.proofs.Lists.{written_back, changed_past}
 use Rattle.vk_port.proofs.lanes.Lane.mark.Goals as goal
 

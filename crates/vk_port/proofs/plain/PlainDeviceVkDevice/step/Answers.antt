@@ -1,5 +1,5 @@
 -- The step that is found can be taken.
-use Rattle.std.proofs.Common.{◌≡◌, ◌+◌, ◌<◌, ◌∙◌, length, arith, refl, sym, ap, subst, Some, slice_get}
+use Rattle.std.proofs.Common.{◌≡◌, ◌+◌, ◌<◌, length, arith, refl, sym, subst, Some, slice_get}
 use Rattle.vk_port.specs.Enabled.{enabled_steps}
 use Rattle.vk_port.specs.Stored.{state_of}
 use Rattle.vk_port.specs.VkState.{VkState}

@@ -1,7 +1,6 @@
 -- The passes stand first.
 use Rattle.std.proofs.Common.{◌++◌, ◌∙◌, refl, sym}
 use Rattle.vk_port.specs.Enabled.{passes, commands, bumps}
-use Rattle.vk_port.specs.Found.{found}
 use Rattle.vk_port.proofs.Finding.{found_first, found_second}
 use Rattle.vk_port.proofs.store.Store.find.Goals as goal
 
