@@ -1,43 +1,91 @@
 //! Near misses of the form: each is refused.
 
-use super::worlds::{HEAD, text_of};
+use super::worlds::{push_lines, text_of, text_with};
 use crate::read_world;
 use std::test::Fail;
 
-/// The calls of one round.
-const ROUND: &str = "write u 0 1 2 3 4\nreset l a\ncopy l b 0 u 0 16\nclose l\nexecute q l\nsignal q f 1\nhostwait f 1\nread b 0 16\n";
+/// Data words that are refused, behind `write u 0 `.
+fn bad_words() -> [&'static str; 15] {
+    [
+        "1 2 3",
+        "1 2 3 4 5",
+        "1 2 3 ",
+        "1 2  3 4",
+        "1 2\t3 4",
+        "1 2 3 4 ",
+        "1 2 3 4\r",
+        "1 2 3 123456789",
+        "1 2 3 000000001",
+        "1 2 3 A",
+        "1 2 3 g",
+        "1 2 3 /",
+        "1 2 3 :",
+        "1 2 3 `",
+        "1 2 3 0x4",
+    ]
+}
+
+/// Values that are refused.
+fn bad_values() -> [&'static str; 9] {
+    [
+        "0",
+        "01",
+        "00",
+        "+1",
+        "-1",
+        "1a",
+        "",
+        "18446744073709551616",
+        "100000000000000000000",
+    ]
+}
+
+/// What is refused in place of the line of a place and its line feed.
+fn bad_lines() -> [(usize, &'static str); 30] {
+    [
+        (0, "d3dtrace 2\n"),
+        (0, "d3dtrace 1 \n"),
+        (0, "\nd3dtrace 1\n"),
+        (1, "queue q  direct\n"),
+        (1, "queue q copy\n"),
+        (2, "fence f 1\n"),
+        (3, "buffer u upload 20\n"),
+        (4, "buffer b upload 16\n"),
+        (5, "allocator\ta direct\n"),
+        (7, "list m direct\nlist n direct\n"),
+        (8, "thread t\nthread t\n"),
+        (8, "thread s\n"),
+        (9, "write u 4 1 2 3 4\n"),
+        (9, "Write u 0 1 2 3 4\n"),
+        (10, "reset m a\n"),
+        (11, "copy l b 0 u 0 12\n"),
+        (11, "copy l u 0 b 0 16\n"),
+        (12, "close m\n"),
+        (13, "execute q l m\n"),
+        (14, "signal q f 2\n"),
+        (14, "signal q g 1\n"),
+        (15, "hostwait f 01\n"),
+        (15, "hostwait f  1\n"),
+        (16, "read u 0 16\n"),
+        (17, "end"),
+        (17, "end\n\n"),
+        (17, "end\n "),
+        (17, "end\nend\n"),
+        (17, "end \n"),
+        (17, " end\n"),
+    ]
+}
 
 #[test]
-fn words_and_values_that_nearly_fit_are_refused(rt: HostRuntime) -> Result<(), Fail> {
+fn words_that_nearly_fit_are_refused(rt: HostRuntime) -> Result<(), Fail> {
     let alloc = rt.alloc();
-    for (words, signal, wait) in [
-        ("1 2 3", "1", "1"),
-        ("1 2 3 4 5", "1", "1"),
-        ("1 2 3 ", "1", "1"),
-        ("1 2  3 4", "1", "1"),
-        ("1 2\t3 4", "1", "1"),
-        ("1 2 3 4 ", "1", "1"),
-        ("1 2 3 4\r", "1", "1"),
-        ("1 2 3 123456789", "1", "1"),
-        ("1 2 3 000000001", "1", "1"),
-        ("1 2 3 A", "1", "1"),
-        ("1 2 3 g", "1", "1"),
-        ("1 2 3 /", "1", "1"),
-        ("1 2 3 :", "1", "1"),
-        ("1 2 3 `", "1", "1"),
-        ("1 2 3 0x4", "1", "1"),
-        ("1 2 3 4", "0", "0"),
-        ("1 2 3 4", "01", "01"),
-        ("1 2 3 4", "1", "01"),
-        ("1 2 3 4", "1", "2"),
-        ("1 2 3 4", "+1", "+1"),
-        ("1 2 3 4", "1a", "1a"),
-        ("1 2 3 4", "", ""),
-        ("1 2 3 4", "18446744073709551616", "18446744073709551616"),
-        ("1 2 3 4", "100000000000000000000", "100000000000000000000"),
-    ] {
-        let text = text_of(alloc, words, signal, wait)?;
-        assert!(rt; read_world(alloc, text.as_bytes())?.is_none(), "{words} {signal} {wait}");
+    for words in bad_words() {
+        let text = text_of(alloc, words, "1")?;
+        assert!(rt; read_world(alloc, text.as_bytes())?.is_none(), "{words}");
+    }
+    for value in bad_values() {
+        let text = text_of(alloc, "1 2 3 4", value)?;
+        assert!(rt; read_world(alloc, text.as_bytes())?.is_none(), "{value}");
     }
     Ok(())
 }
@@ -45,54 +93,22 @@ fn words_and_values_that_nearly_fit_are_refused(rt: HostRuntime) -> Result<(), F
 #[test]
 fn lines_that_nearly_fit_are_refused(rt: HostRuntime) -> Result<(), Fail> {
     let alloc = rt.alloc();
-    for (head, round, end) in [
-        (HEAD, ROUND, "end"),
-        (HEAD, ROUND, ""),
-        (HEAD, ROUND, "end\n\n"),
-        (HEAD, ROUND, "end\n "),
-        (HEAD, ROUND, "end\nend\n"),
-        (HEAD, ROUND, "end \n"),
-        (HEAD, ROUND, " end\n"),
-        (HEAD, ROUND, "\nend\n"),
-        (HEAD, ROUND, "End\n"),
-        (HEAD, "", "end\n"),
-        ("", ROUND, "end\n"),
-        ("\n", ROUND, "end\n"),
-        ("d3dtrace 1\n", ROUND, "end\n"),
-        ("", "", ""),
-        (HEAD, "write u 0 1 2 3 4\nreset l a\n", "end\n"),
-        (HEAD, "write u 4 1 2 3 4\nreset l a\ncopy l b 0 u 0 16\nclose l\nexecute q l\nsignal q f 1\nhostwait f 1\nread b 0 16\n", "end\n"),
-        (HEAD, "write u 0 1 2 3 4\nreset m a\ncopy l b 0 u 0 16\nclose l\nexecute q l\nsignal q f 1\nhostwait f 1\nread b 0 16\n", "end\n"),
-        (HEAD, "write u 0 1 2 3 4\nreset l a\ncopy l b 0 u 0 12\nclose l\nexecute q l\nsignal q f 1\nhostwait f 1\nread b 0 16\n", "end\n"),
-        (HEAD, "write u 0 1 2 3 4\nreset l a\ncopy l b 0 u 0 16\nclose m\nexecute q l\nsignal q f 1\nhostwait f 1\nread b 0 16\n", "end\n"),
-        (HEAD, "write u 0 1 2 3 4\nreset l a\ncopy l b 0 u 0 16\nclose l\nexecute q m\nsignal q f 1\nhostwait f 1\nread b 0 16\n", "end\n"),
-        (HEAD, "write u 0 1 2 3 4\nreset l a\ncopy l b 0 u 0 16\nclose l\nexecute q l\nsignal q g 1\nhostwait f 1\nread b 0 16\n", "end\n"),
-        (HEAD, "write u 0 1 2 3 4\nreset l a\ncopy l b 0 u 0 16\nclose l\nexecute q l\nhostwait f 1\nsignal q f 1\nread b 0 16\n", "end\n"),
-        (HEAD, "write u 0 1 2 3 4\nreset l a\ncopy l b 0 u 0 16\nclose l\nexecute q l\nsignal q f 1\nhostwait f 1\nread u 0 16\n", "end\n"),
-    ] {
-        let text = format!(in alloc; "{head}{round}{end}")?;
-        assert!(rt; read_world(alloc, text.as_bytes())?.is_none(), "{round}{end}");
+    for (at, other) in bad_lines() {
+        let text = text_with(alloc, at, other)?;
+        assert!(rt; read_world(alloc, text.as_bytes())?.is_none(), "{other}");
     }
-    let text = format!(in alloc; "{HEAD}{ROUND}end\n")?;
-    assert!(rt; read_world(alloc, text.as_bytes())?.is_some());
     Ok(())
 }
 
 #[test]
-fn declarations_that_nearly_fit_are_refused(rt: HostRuntime) -> Result<(), Fail> {
+fn no_line_may_be_wanting(rt: HostRuntime) -> Result<(), Fail> {
     let alloc = rt.alloc();
-    for head in [
-        "d3dtrace 2\nqueue q direct\nfence f 0\nbuffer u upload 16\nbuffer b readback 16\nallocator a direct\nlist l direct\nlist m direct\nthread t\n",
-        "d3dtrace 1\nqueue q  direct\nfence f 0\nbuffer u upload 16\nbuffer b readback 16\nallocator a direct\nlist l direct\nlist m direct\nthread t\n",
-        "d3dtrace 1\nfence f 0\nqueue q direct\nbuffer u upload 16\nbuffer b readback 16\nallocator a direct\nlist l direct\nlist m direct\nthread t\n",
-        "d3dtrace 1\nqueue q direct\nfence f 1\nbuffer u upload 16\nbuffer b readback 16\nallocator a direct\nlist l direct\nlist m direct\nthread t\n",
-        "d3dtrace 1\nqueue q direct\nfence f 0\nbuffer u upload 20\nbuffer b readback 16\nallocator a direct\nlist l direct\nlist m direct\nthread t\n",
-        "d3dtrace 1\nqueue q direct\nfence f 0\nbuffer u upload 16\nbuffer b readback 16\nallocator a direct\nlist l direct\nthread t\n",
-        "d3dtrace 1\nqueue q direct\nfence f 0\nbuffer u upload 16\nbuffer b readback 16\nallocator a direct\nlist l direct\nlist m direct\nthread s\n",
-        "d3dtrace 1\nqueue q direct\nfence f 0\nbuffer u upload 16\nbuffer b readback 16\nallocator a direct\nlist l direct\nlist m direct\nthread t\nthread t\n",
-    ] {
-        let text = format!(in alloc; "{head}{ROUND}end\n")?;
-        assert!(rt; read_world(alloc, text.as_bytes())?.is_none(), "{head}");
+    for at in 0..18 {
+        let text = text_with(alloc, at, "")?;
+        assert!(rt; read_world(alloc, text.as_bytes())?.is_none(), "{at}");
     }
+    let mut whole = String::new(alloc);
+    push_lines(&mut whole, 0, 18)?;
+    assert!(rt; read_world(alloc, whole.as_bytes())?.is_some());
     Ok(())
 }

@@ -36,37 +36,61 @@ fn ending_at(alloc: Global, value: u64) -> Result<Ending, Memory> {
     })
 }
 
-#[test]
-fn each_status_has_its_lines(rt: HostRuntime) -> Result<(), Fail> {
-    let alloc = rt.alloc();
-    let names = names_of_form(alloc)?;
-    let history = one_round(alloc)?;
-    let ending = ending_at(alloc, 1)?;
-    let torn = Torn { heap: 3, slot: 70000, declared: 0, found: 4_294_967_295 };
-    for (status, want) in [
+/// What each status prints of that round and that ending.
+fn status_rows() -> [(Status, &'static str); 10] {
+    let torn = Torn {
+        heap: 3,
+        slot: 70000,
+        declared: 0,
+        found: 4_294_967_295,
+    };
+    [
         (Status::Done, "t 8 words 00000001 00000002 00000003 00000004\nfence f 1\n"),
         (
             Status::Stalled,
             "t 8 words 00000001 00000002 00000003 00000004\nfence f 1\nstalled thread t\nstalled queue q\n",
         ),
         (Status::Usage(3), "usage 3\n"),
-        (Status::Refused(18_446_744_073_709_551_615, Cause::Later), "refused line 18446744073709551615 later\n"),
+        (
+            Status::Refused(18_446_744_073_709_551_615, Cause::Later),
+            "refused line 18446744073709551615 later\n",
+        ),
         (Status::ReadFault, "read fault\n"),
         (Status::WriteFault, ""),
-        (Status::Broken(Rule::B13, 9), "t 8 words 00000001 00000002 00000003 00000004\nbroken B13 9\n"),
-        (Status::Torn(torn), "t 8 words 00000001 00000002 00000003 00000004\ntorn 3 70000 0 4294967295\n"),
-        (Status::DeviceLost, "t 8 words 00000001 00000002 00000003 00000004\ndevice lost 887a0005\n"),
+        (
+            Status::Broken(Rule::B13, 9),
+            "t 8 words 00000001 00000002 00000003 00000004\nbroken B13 9\n",
+        ),
+        (
+            Status::Torn(torn),
+            "t 8 words 00000001 00000002 00000003 00000004\ntorn 3 70000 0 4294967295\n",
+        ),
+        (
+            Status::DeviceLost,
+            "t 8 words 00000001 00000002 00000003 00000004\ndevice lost 887a0005\n",
+        ),
         (Status::Memory, "out of memory 8007000e\n"),
-    ] {
+    ]
+}
+
+#[test]
+fn each_status_has_its_lines(rt: HostRuntime) -> Result<(), Fail> {
+    let alloc = rt.alloc();
+    let names = names_of_form(alloc)?;
+    let history = one_round(alloc)?;
+    let ending = ending_at(alloc, 1)?;
+    for (status, want) in status_rows() {
         let found = output(alloc, &names, status, history.as_slice(), &ending)?;
         assert!(rt; found.as_slice() == want.as_bytes(), "at {want}");
-        let plain = plain_line(status);
-        if let Some(line) = plain {
-            assert!(rt; line == want.as_bytes(), "at {want}");
-        }
-        assert_eq!(rt; plain.is_some(), want == "read fault\n" || want == "out of memory 8007000e\n");
     }
     Ok(())
+}
+
+#[test]
+fn two_statuses_need_no_memory(rt: HostRuntime) {
+    assert!(rt; plain_line(Status::Memory) == Some(b"out of memory 8007000e\n".as_slice()));
+    assert!(rt; plain_line(Status::ReadFault) == Some(b"read fault\n".as_slice()));
+    assert!(rt; plain_line(Status::Done).is_none());
 }
 
 /// The list of names that are given.
@@ -78,14 +102,8 @@ fn names_from(alloc: Global, words: [&str; 2]) -> Result<Seq<Seq<u8>>, Memory> {
     Ok(names)
 }
 
-#[test]
-fn calls_count_by_thread_and_threads_print_in_order(rt: HostRuntime) -> Result<(), Fail> {
-    let alloc = rt.alloc();
-    let names = Names {
-        threads: names_from(alloc, ["one", "two"])?,
-        queues: names_from(alloc, ["q", "r"])?,
-        fences: names_from(alloc, ["f", "g"])?,
-    };
+/// Calls of three threads, the last of which has no name.
+fn three_threads(alloc: Global) -> Result<Vec<Event>, Memory> {
     let mut history = Vec::new(alloc);
     history.push(answered(1, Reply::Value(18_446_744_073_709_551_615)))?;
     history.push(answered(0, Reply::Done))?;
@@ -95,34 +113,37 @@ fn calls_count_by_thread_and_threads_print_in_order(rt: HostRuntime) -> Result<(
     history.push(answered(0, Reply::Words(Seq::from_slice(alloc, &[0xdead_beef, 0])?)))?;
     history.push(answered(0, Reply::Words(Seq::new(alloc))))?;
     history.push(answered(2, Reply::Value(7)))?;
-    let ending = Ending {
+    Ok(history)
+}
+
+/// An ending with a fence, a thread and a queue more than there are names.
+fn unnamed_ending(alloc: Global) -> Result<Ending, Memory> {
+    Ok(Ending {
         fences: Seq::from_slice(alloc, &[0, 10, 5])?,
         threads: Seq::from_slice(alloc, &[1, 9])?,
         queues: Seq::from_slice(alloc, &[0, 1])?,
-    };
-    let found = output(alloc, &names, Status::Stalled, history.as_slice(), &ending)?;
-    let want = "one 2 80070057\none 3 words deadbeef 00000000\none 4 words\n\
+    })
+}
+
+/// What is printed of them.
+fn three_threads_text() -> &'static str {
+    "one 2 80070057\none 3 words deadbeef 00000000\none 4 words\n\
 two 1 value 18446744073709551615\ntwo 3 80004005\nfence f 0\nfence g 10\nfence  5\n\
-stalled thread two\nstalled thread \nstalled queue q\nstalled queue r\n";
-    assert!(rt; found.as_slice() == want.as_bytes());
-    Ok(())
+stalled thread two\nstalled thread \nstalled queue q\nstalled queue r\n"
 }
 
 #[test]
-fn each_status_has_its_exit_status(rt: HostRuntime) {
-    let torn = Torn { heap: 0, slot: 0, declared: 0, found: 0 };
-    for (status, code) in [
-        (Status::Done, 0),
-        (Status::Stalled, 1),
-        (Status::Usage(1), 2),
-        (Status::Refused(1, Cause::Size), 3),
-        (Status::ReadFault, 4),
-        (Status::WriteFault, 5),
-        (Status::Broken(Rule::B1, 0), 6),
-        (Status::Torn(torn), 6),
-        (Status::DeviceLost, 7),
-        (Status::Memory, 8),
-    ] {
-        assert_eq!(rt; status.exit_code(), code);
-    }
+fn calls_count_by_thread_and_threads_print_in_order(rt: HostRuntime) -> Result<(), Fail> {
+    let alloc = rt.alloc();
+    let names = Names {
+        threads: names_from(alloc, ["one", "two"])?,
+        queues: names_from(alloc, ["q", "r"])?,
+        fences: names_from(alloc, ["f", "g"])?,
+    };
+    let history = three_threads(alloc)?;
+    let ending = unnamed_ending(alloc)?;
+    let found = output(alloc, &names, Status::Stalled, history.as_slice(), &ending)?;
+    assert!(rt; found.as_slice() == three_threads_text().as_bytes());
+    Ok(())
 }
+
