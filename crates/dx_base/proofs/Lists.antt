@@ -1,7 +1,9 @@
 -- A list with the item at a place changed: by writing there, its length, and its items.
 use Rattle.std.proofs.Common.{ℕ, zero, suc, ◌≡◌, ◌≢◌, ◌<◌, ◌≤◌, ◌+◌, ◌∙◌, refl, sym, ap, List, [], ◌∷◌, ◌++◌, length, get_or, slice_set, slice_get, Option, Some, None, option_map, map, take, add-one, arith}
 use Rattle.std.proofs.lemmas.List.{length-take, length-append, length-drop}
-use Rattle.std.proofs.Common.{drop}
+use Rattle.std.proofs.Common.{drop, Bool, true, false}
+use Rattle.std.specs.List.{list_all}
+use Rattle.std.specs.Prelude.{◌&&◌}
 use Rattle.dx_base.specs.Lists.{changed_at, put}
 
 module _ {A : Type 0} where
@@ -108,3 +110,28 @@ pub map_write_same : {A B : Type 0} (f : A → B) (xs : List A) (i : ℕ) (x y :
 map_write_same f [] i x y l h e = refl
 map_write_same f (z ∷ xs) zero x y l h e = ap (λ t. t ∷ map f xs) (e ∙ ap f h)
 map_write_same f (z ∷ xs) (suc i) x y l h e = ap (λ t. f z ∷ t) (map_write_same f xs i x y (omega arith) h e)
+
+-- both sides of a test that holds
+pub and_both : (a b : Bool) → (a && b) ≡ true → (a ≡ true) × (b ≡ true)
+and_both true b h = (refl, h)
+and_both false b h = absurd (cc)
+
+pub and_of : (a b : Bool) → a ≡ true → b ≡ true → (a && b) ≡ true
+and_of a b x y = ap (λ t. t && b) x ∙ y
+
+-- a test of each item, of which one is changed
+pub all_changed : {A : Type 0} (p : A → Bool) (f : A → A) (k : ℕ) (xs : List A) → list_all p xs ≡ true → ((x : A) → p x ≡ true → p (f x) ≡ true) → list_all p (changed_at f k xs) ≡ true
+all_changed p f k [] all keeps = refl
+all_changed p f zero (x ∷ xs) all keeps =
+    let both : (p x ≡ true) × (list_all p xs ≡ true) = and_both (p x) (list_all p xs) all in
+    and_of (p (f x)) (list_all p xs) (keeps x both.0) both.1
+all_changed p f (suc k) (x ∷ xs) all keeps =
+    let both : (p x ≡ true) × (list_all p xs ≡ true) = and_both (p x) (list_all p xs) all in
+    and_of (p x) (list_all p (changed_at f k xs)) both.0 (all_changed p f k xs both.1 keeps)
+
+-- a test of each item of two lists
+pub all_append : {A : Type 0} (p : A → Bool) (xs ys : List A) → list_all p xs ≡ true → list_all p ys ≡ true → list_all p (xs ++ ys) ≡ true
+all_append p [] ys first second = second
+all_append p (x ∷ xs) ys first second =
+    let both : (p x ≡ true) × (list_all p xs ≡ true) = and_both (p x) (list_all p xs) first in
+    and_of (p x) (list_all p (xs ++ ys)) both.0 (all_append p xs ys both.1 second)
