@@ -11,3 +11,4 @@ pub mod Marking
 pub mod Short
 pub mod CallsOnLists
 pub mod Sizes
+pub mod Good

@@ -10,3 +10,4 @@ pub mod Lists
 pub mod Checks
 pub mod Shape
 pub mod Marks
+pub mod Good
