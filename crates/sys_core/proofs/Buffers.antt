@@ -43,7 +43,7 @@ device_sizes w v world objects = objects.buffers ∙ planned w.resources world.l
 pub same_sizes : (w : World) (h : List Event) (v : VkState) → IsWorld w → Matches (plan_of_world w) v → map length v.words ≡ map length (state_after w h).memory
 same_sizes w h v world objects = device_sizes w v world objects ∙ sym (memory_sizes w h ∙ zeroed w.resources)
 
-lives_at : (w : World) (b : ℕ) (r : Resource) → resource_of w b ≡ Some r → slice_get w.resources b ≡ Some (Some r)
+pub lives_at : (w : World) (b : ℕ) (r : Resource) → resource_of w b ≡ Some r → slice_get w.resources b ≡ Some (Some r)
 lives_at w b r is = by_place (slice_get w.resources b) refl
   where
     by_place : (o : Option (Option Resource)) → slice_get w.resources b ≡ o → slice_get w.resources b ≡ Some (Some r)

@@ -229,6 +229,7 @@ device_is w h e v words is none sizes = record {
   valid = record { lanes = is.valid.lanes; numbered = is.valid.numbered };
   objects = record { lanes = is.objects.lanes; timelines = is.objects.timelines; buffers = sizes ∙ is.objects.buffers };
   stands = stands_event w h e v (record v { words = words }) is.stands none refl refl;
+  named = is.named;
   finished = λ q within. omega (arith, counter_append q h e, none q, is.finished q within);
 }
 

@@ -57,11 +57,11 @@ drop_suc_get (suc n) (y ∷ ys) x is = drop_suc_get n ys x is
 pub drop_here : {A : Type 0} (n : ℕ) (xs : List A) (x : A) → slice_get xs n ≡ Some x → drop n xs ≡ x ∷ drop (n + 1) xs
 drop_here n xs x is = drop_suc_get n xs x is ∙ ap (λ k. x ∷ drop k xs) (sym (add-one n))
 
-slice_get-drop : {A : Type 0} (n : ℕ) (xs : List A) → slice_get (drop n xs) 0 ≡ slice_get xs n
-slice_get-drop zero [] = refl
-slice_get-drop (suc n) [] = refl
-slice_get-drop zero (y ∷ ys) = refl
-slice_get-drop (suc n) (y ∷ ys) = slice_get-drop n ys
+pub slice_get_drop : {A : Type 0} (n : ℕ) (xs : List A) → slice_get (drop n xs) 0 ≡ slice_get xs n
+slice_get_drop zero [] = refl
+slice_get_drop (suc n) [] = refl
+slice_get_drop zero (y ∷ ys) = refl
+slice_get_drop (suc n) (y ∷ ys) = slice_get_drop n ys
 
 -- after a call, or the waking of a thread
 pub held_event : (w : World) (h : List Event) (e : Event) (v u : VkState) (q : ℕ) (x y : Queued) → IsHeld w h v q x → completions_by q e ≡ 0 → u.journal ≡ v.journal →
@@ -93,7 +93,7 @@ held_submit w h v u q x y o held done head next submitted last signals less =
     let os : List Operation = operations w h q in
     let n : ℕ = x.submitted in
     let c : ℕ = counter h q in
-    let at : slice_get os n ≡ Some o = sym (slice_get-drop n os) ∙ ap (λ xs. slice_get xs 0) (sym held.rest) ∙ head in
+    let at : slice_get os n ≡ Some o = sym (slice_get_drop n os) ∙ ap (λ xs. slice_get xs 0) (sym held.rest) ∙ head in
     let inside : n < length os = slice_get_within os n o at in
     let long : length (take n os) ≡ n = length-take n os ∙ omega arith in
     let front : take y.submitted os ≡ take n os ++ o ∷ [] = ap (λ k. take k os) submitted ∙ take_more n os o at in

@@ -7,3 +7,5 @@ pub mod Inside
 pub mod Serving
 pub mod Buffers
 pub mod Calling
+pub mod Fitting
+pub mod Working

@@ -90,6 +90,22 @@ submitted_is w v rest (suc q) begins numbered =
     ∙ ap (λ t. number_after 1 (cond t (startup w ∷ of_queue (suc q) rest) (of_queue (suc q) rest)) - 1) other
     ∙ omega (arith, number_after_is 1 (of_queue (suc q) rest) numbered)
 
+-- the number of the next batch of a queue
+pub next_is : (w : World) (v : VkState) (rest : List Batch) (q : ℕ) → v.journal ≡ startup w ∷ rest → are_numbered 1 (of_queue q rest) ≡ true →
+    next_number q v.journal ≡ submitted_of v q + 1
+next_is w v rest zero begins numbered =
+    let next : next_number 0 v.journal ≡ 1 + length (of_queue 0 rest) =
+      ap (λ (j : List Batch). number_after 0 (of_queue 0 j)) begins ∙ number_after_is 1 (of_queue 0 rest) numbered in
+    omega (arith, next)
+next_is w v rest (suc q) begins numbered =
+    let other : (0 == suc q) ≡ false = eqb_false 0 (suc q) (λ e. omega (arith, e)) in
+    let next : next_number (suc q) v.journal ≡ 1 + length (of_queue (suc q) rest) =
+      ap (λ n. number_after n (of_queue (suc q) v.journal)) (first_number_suc q)
+      ∙ ap (λ (j : List Batch). number_after 1 (of_queue (suc q) j)) begins
+      ∙ ap (λ t. number_after 1 (cond t (startup w ∷ of_queue (suc q) rest) (of_queue (suc q) rest))) other
+      ∙ number_after_is 1 (of_queue (suc q) rest) numbered in
+    omega (arith, next)
+
 operations_more : (w : World) (h : List Event) (e : Event) (q : ℕ) → length (operations w h q) ≤ length (operations w (h ++ e ∷ []) q)
 operations_more w h e q =
     omega (arith, ap length (operations_append w (first_state w) q h e), length-append (operations w h q) (called_by w (state_after w h).desk q e))

@@ -74,15 +74,12 @@ pub record AreHeld (w : World) (h : List Event) (v : VkState) (held : List Queue
 abbrev pub finished_of : VkState → ℕ → ℕ
 finished_of v q = length (of_queue q v.journal) - length (lane_of v q).batches
 
--- a batch sets its queue's timeline to its number, and the start-up batch the start-up timeline to 1
-abbrev pub sets_itself : World → Batch → Type 0
-sets_itself w b = b.sets ≡ (if (b.number == 0) then (length w.queues, 1) ∷ [] else (b.queue, b.number) ∷ [])
-
 -- the device has the world's objects, and the history's completions are its finished batches
 pub record IsDevice (w : World) (h : List Event) (v : VkState) : Type 0 where
   pub valid : IsValid v
   pub objects : Matches (plan_of_world w) v
   pub stands : Stands w h v
+  pub named : list_all (λ b. nat_lt b.queue (length w.queues)) v.journal ≡ true
   pub finished : (q : ℕ) → q < length w.queues → counter h q ≡ (first_number q + finished_of v q) - 1
 
 -- what the system keeps at every step
