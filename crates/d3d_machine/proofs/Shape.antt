@@ -1,27 +1,22 @@
 -- Events keep the shape of a state, and lists short.
-use Rattle.std.proofs.Common.{ℕ, zero, suc, ◌≡◌, ◌≢◌, ◌<◌, ◌≤◌, ◌+◌, ◌*◌, ◌/◌, nat_le, refl, sym, ap, ◌∙◌, subst, Bool, true, false, cond, List, [], ◌∷◌, ◌++◌, map, take, drop, length, slice_get, length-append, append_assoc, append-nil, add-one, Option, Some, None, arith}
+use Rattle.std.proofs.Common.{ℕ, ◌≡◌, ◌+◌, ◌/◌, refl, ◌∙◌, Bool, true, false, List, [], ◌∷◌, ◌++◌, map, take, drop, length, Option, Some, None}
 use Rattle.std.proofs.Math.ListN.{length-map}
-use Rattle.std.proofs.lemmas.Bool.{cases_eq}
-use Rattle.std.proofs.lemmas.Bool.Decides.{nat_tests}
-use Rattle.dx_base.specs.Lists.{changed_at}
 use Rattle.dx_base.proofs.Lists.{length_changed}
 use Rattle.dx_base.specs.declared.hresult.Hresult.{Hresult}
-use Rattle.dx_base.specs.declared.hresult.Hresult.TheVariants.{Fail}
 use Rattle.d3d_machine.specs.declared.world.World.{World}
 use Rattle.d3d_machine.specs.declared.calls.Call.{Call}
 use Rattle.d3d_machine.specs.declared.calls.Call.TheVariants as call
 use Rattle.d3d_machine.specs.declared.calls.Record.{Record}
 use Rattle.d3d_machine.specs.declared.calls.Record.TheVariants.{Copy}
-use Rattle.d3d_machine.specs.declared.events.Listed.{Listed}
 use Rattle.d3d_machine.specs.declared.events.Command.{Command}
 use Rattle.d3d_machine.specs.declared.events.Operation.{Operation}
 use Rattle.d3d_machine.specs.declared.events.Operation.TheVariants as operation
 use Rattle.d3d_machine.specs.declared.events.Event.{Event}
 use Rattle.d3d_machine.specs.declared.events.Event.TheVariants as event
-use Rattle.d3d_machine.specs.State.{Desk, State, Place, list_of, called_of, value_of, words_at, is_recording, first_state, first_desk, opening_place, declared_list, zeros}
-use Rattle.d3d_machine.specs.Replies.{refusal, refuse_if, record_error, argument_error}
-use Rattle.d3d_machine.specs.Effects.{overwritten, effect, after_refused, failed_if, desk_or, counted, desk_after_call, takes_value, marked_place, dropped, desk_after_operation, head_of, woken, desk_after, written, memory_or, memory_after_operation, memory_after, after_record, after_commands, after, after_all, recorded, recorded_or, kept_or, closed, failed, begun, gathered, begins_wait}
-use Rattle.d3d_machine.specs.Shape.{HasLengths, HasShape, AreShort}
+use Rattle.d3d_machine.specs.State.{Desk, State, list_of, value_of, words_at, is_recording, first_state, opening_place, declared_list, zeros}
+use Rattle.d3d_machine.specs.Replies.{refusal}
+use Rattle.d3d_machine.specs.Effects.{overwritten, effect, after_refused, failed_if, desk_or, counted, marked_place, dropped, desk_after_operation, head_of, woken, desk_after, written, memory_or, memory_after_operation, memory_after, after_record, after_commands, after, after_all, recorded, closed, failed, begun, gathered, begins_wait}
+use Rattle.d3d_machine.specs.Shape.{HasLengths, HasShape}
 
 pub first_has_shape : (w : World) → HasShape w (first_state w)
 first_has_shape w = record {

@@ -1,6 +1,5 @@
 -- The state after an event. Every event has an effect here; whether it may come stands apart.
-use Rattle.std.specs.Prelude.{ℕ, ◌≡◌, ◌+◌, ◌*◌, ◌/◌, ◌==◌, ◌&&◌, ◌||◌, not, nat_lt, nat_le, List, [], ◌∷◌, ◌++◌, length, map, slice_get, take, drop, Option, Some, None, Bool, true, false, if◌then◌else◌}
-use Rattle.std.specs.List.{flat_map}
+use Rattle.std.specs.Prelude.{ℕ, ◌+◌, ◌/◌, ◌==◌, ◌&&◌, ◌||◌, nat_le, List, [], ◌∷◌, ◌++◌, length, map, slice_get, take, drop, Option, Some, None, Bool, true, false}
 use Rattle.dx_base.specs.Lists.{changed_at}
 use Rattle.dx_base.specs.declared.hresult.Hresult.{Hresult}
 use Rattle.d3d_machine.specs.declared.world.World.{World}
