@@ -1,5 +1,5 @@
 -- The calls on lists, said of the lists alone, are the calls of the machine.
-use Rattle.std.proofs.Common.{ℕ, ◌≡◌, ◌||◌, not, refl, sym, ap, ◌∙◌, Bool, true, false, List, [], ◌∷◌, ◌++◌, map, length, Option, Some, None}
+use Rattle.std.proofs.Common.{ℕ, ◌≡◌, refl, ap, ◌∙◌, Bool, true, false, List, length, Option, Some, None}
 use Rattle.dx_base.specs.Lists.{changed_at}
 use Rattle.dx_base.specs.declared.hresult.Hresult.{Hresult}
 use Rattle.dx_base.specs.declared.ids.QueueId.{QueueId}
@@ -7,14 +7,13 @@ use Rattle.dx_base.specs.declared.ids.ListId.{ListId}
 use Rattle.dx_base.specs.declared.ids.AllocatorId.{AllocatorId}
 use Rattle.dx_base.specs.declared.ids.ResourceId.{ResourceId}
 use Rattle.d3d_machine.specs.declared.world.World.{World}
-use Rattle.d3d_machine.specs.declared.calls.Call.{Call}
 use Rattle.d3d_machine.specs.declared.calls.Call.TheVariants as call
 use Rattle.d3d_machine.specs.declared.calls.Record.{Record}
 use Rattle.d3d_machine.specs.declared.events.Listed.{Listed}
 use Rattle.d3d_machine.specs.declared.events.Operation.TheVariants as operation
-use Rattle.d3d_machine.specs.State.{Desk, list_of, is_recording, value_of}
+use Rattle.d3d_machine.specs.State.{Desk, list_of, is_recording}
 use Rattle.d3d_machine.specs.Replies.{refusal}
-use Rattle.d3d_machine.specs.Effects.{effect, after_refused, failed_if, desk_or, desk_after_call, recorded, closed, begun, pushed}
+use Rattle.d3d_machine.specs.Effects.{effect, after_refused, failed_if, desk_or, desk_after_call, closed, pushed}
 use Rattle.d3d_machine.specs.Checks.{write_refusal, read_refusal}
 use Rattle.d3d_machine.specs.Lists.{lists_or, record_refusal, lists_after_record, close_refusal, failed_lists_if, lists_after_close, reset_refusal, lists_after_reset, execute_refusal, commands_of}
 

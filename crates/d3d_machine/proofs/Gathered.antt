@@ -1,10 +1,8 @@
 -- The commands of several lists, in order.
-use Rattle.std.proofs.Common.{ℕ, zero, suc, ◌≡◌, ◌<◌, ◌≤◌, ◌+◌, ◌*◌, refl, sym, ap, ◌∙◌, List, [], ◌∷◌, ◌++◌, map, take, length, get_or, length-append, append_assoc, append-nil, add-one, arith}
+use Rattle.std.proofs.Common.{ℕ, zero, suc, ◌≡◌, ◌<◌, ◌+◌, sym, ap, ◌∙◌, List, [], ◌∷◌, ◌++◌, take, length, get_or, append_assoc, append-nil, add-one, arith}
 use Rattle.dx_base.specs.declared.ids.ListId.{ListId}
 use Rattle.d3d_machine.specs.declared.events.Listed.{Listed}
-use Rattle.d3d_machine.specs.declared.events.Command.{Command}
 use Rattle.d3d_machine.specs.State.{list_of}
-use Rattle.d3d_machine.specs.Effects.{gathered}
 use Rattle.d3d_machine.specs.Lists.{commands_of}
 
 next_commands : (lists : List Listed) (ls : List ListId) (i : ℕ) (d : ListId) → i < length ls →

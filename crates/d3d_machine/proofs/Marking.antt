@@ -1,5 +1,5 @@
 -- The waits of a run are marked exactly where an update suffices that was current at their call or came since.
-use Rattle.std.proofs.Common.{ℕ, zero, suc, ◌≡◌, ◌≢◌, ◌<◌, ◌≤◌, ◌+◌, ◌==◌, ◌||◌, nat_lt, nat_le, refl, sym, ap, ◌∙◌, subst, Bool, true, false, ◌⊎◌, inl, inr, List, [], ◌∷◌, ◌++◌, map, length, slice_get, length-append, append_assoc, append-nil, Option, Some, None, arith}
+use Rattle.std.proofs.Common.{ℕ, zero, suc, ◌≡◌, ◌<◌, ◌≤◌, ◌+◌, ◌||◌, nat_lt, nat_le, refl, sym, ap, ◌∙◌, subst, Bool, true, false, ◌⊎◌, inl, inr, List, [], ◌∷◌, ◌++◌, map, length, length-append, append_assoc, Option, Some, None, arith}
 use Rattle.std.specs.List.{list_any}
 use Rattle.std.proofs.lemmas.Bool.{cases_eq}
 use Rattle.std.proofs.lemmas.Bool.Decides.{nat_tests}
@@ -15,20 +15,18 @@ use Rattle.d3d_machine.specs.declared.events.Operation.{Operation}
 use Rattle.d3d_machine.specs.declared.events.Operation.TheVariants as operation
 use Rattle.d3d_machine.specs.declared.events.Event.{Event}
 use Rattle.d3d_machine.specs.declared.events.Event.TheVariants as event
-use Rattle.d3d_machine.specs.World.{IsWorld, is_named}
-use Rattle.d3d_machine.specs.State.{Waiting, Desk, State, Place, place_of, value_of, first_state, opening_place}
+use Rattle.d3d_machine.specs.World.{IsWorld}
+use Rattle.d3d_machine.specs.State.{Waiting, Desk, State, Place, place_of, first_state, opening_place}
 use Rattle.d3d_machine.specs.Replies.{refusal}
-use Rattle.d3d_machine.specs.Effects.{effect, after_refused, desk_or, marked_option, marked_place, dropped, desk_after_operation, head_of, desk_after_call, after, after_all}
-use Rattle.d3d_machine.specs.Play.{May, SameButWords, IsRunButWords, state_after, calls_by, calls_in}
+use Rattle.d3d_machine.specs.Effects.{effect, after_refused, desk_or, marked_option, dropped, desk_after_operation, head_of, desk_after_call, after, after_all}
+use Rattle.d3d_machine.specs.Play.{May, SameButWords, IsRunButWords, state_after, calls_by}
 use Rattle.d3d_machine.specs.Fences.{update_of, updates_from, applied_updates, is_met}
 use Rattle.d3d_machine.specs.Marks.{waiting_at, marked_by, current_update, is_awake_of, IsMetSince}
-use Rattle.d3d_machine.specs.Shape.{HasShape}
-use Rattle.d3d_machine.proofs.Shape.{run_has_shape}
 use Rattle.d3d_machine.proofs.Runs.{state_after_append, run_induction, calls_in_append}
-use Rattle.d3d_machine.proofs.Places.{place_in, one_more, changed_other, kept_at, refused_threads, scripted, calls_by_no}
+use Rattle.d3d_machine.proofs.Places.{place_in, one_more, kept_at, refused_threads, scripted, calls_by_no}
 use Rattle.d3d_machine.proofs.Marks.{is_met_more, applied_append}
 use Rattle.d3d_machine.proofs.Named.{next_is_named}
-use Rattle.d3d_machine.proofs.Waits.{other_call, waits_mapped, woken_waits, waits_on, wait_begins, wait_ends}
+use Rattle.d3d_machine.proofs.Waits.{other_call, waits_mapped, waits_on, wait_begins, wait_ends}
 
 -- the event is a wait that a thread calls
 pub record IsWaitOf (t : ℕ) (e : Event) : Type 0 where

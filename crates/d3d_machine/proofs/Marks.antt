@@ -1,33 +1,28 @@
 -- A wait is marked exactly where an update suffices that was current at its call or is applied since.
-use Rattle.std.proofs.Common.{ℕ, zero, suc, ◌≡◌, ◌≢◌, ◌<◌, ◌≤◌, ◌+◌, ◌-◌, ◌==◌, ◌||◌, ◌&&◌, nat_le, refl, sym, ap, ◌∙◌, subst, Bool, true, false, cond, if◌then◌else◌, ◌⊎◌, inl, inr, List, [], ◌∷◌, ◌++◌, map, take, drop, length, slice_get, length-append, append_assoc, append-nil, add-one, Option, Some, None, arith}
+use Rattle.std.proofs.Common.{ℕ, zero, suc, ◌≡◌, ◌≢◌, ◌<◌, ◌≤◌, ◌-◌, ◌==◌, ◌||◌, nat_le, refl, sym, ap, ◌∙◌, subst, Bool, true, false, if◌then◌else◌, ◌⊎◌, inl, inr, List, [], ◌∷◌, ◌++◌, drop, length, slice_get, Option, Some, None, arith}
 use Rattle.std.specs.List.{list_any}
 use Rattle.std.proofs.lemmas.List.{drop-append-le}
 use Rattle.std.proofs.lemmas.List.Folds.{list_any-append}
 use Rattle.std.proofs.lemmas.Bool.{cases_eq}
 use Rattle.std.proofs.lemmas.Bool.Decides.{nat_tests}
 use Rattle.dx_base.specs.Lists.{changed_at}
-use Rattle.dx_base.proofs.Lists.{length_changed, get_changed, get_changed_other}
 use Rattle.dx_base.specs.declared.hresult.Hresult.{Hresult}
-use Rattle.dx_base.specs.declared.ids.ThreadId.{ThreadId}
-use Rattle.dx_base.specs.declared.ids.FenceId.{FenceId}
 use Rattle.d3d_machine.specs.declared.world.World.{World}
 use Rattle.d3d_machine.specs.declared.calls.Call.{Call}
 use Rattle.d3d_machine.specs.declared.calls.Call.TheVariants as call
-use Rattle.d3d_machine.specs.declared.calls.Reply.{Reply}
 use Rattle.d3d_machine.specs.declared.events.Operation.{Operation}
 use Rattle.d3d_machine.specs.declared.events.Operation.TheVariants as operation
 use Rattle.d3d_machine.specs.declared.events.Event.{Event}
 use Rattle.d3d_machine.specs.declared.events.Event.TheVariants as event
-use Rattle.d3d_machine.specs.State.{Waiting, Desk, State, Place, place_of, value_of, is_recording, list_of, first_state, opening_place}
+use Rattle.d3d_machine.specs.State.{Desk, State, value_of, is_recording, list_of, first_state}
 use Rattle.d3d_machine.specs.Replies.{refusal}
-use Rattle.d3d_machine.specs.Effects.{effect, after_refused, failed_if, desk_or, takes_value, marked_wait, marked_option, marked_place, dropped, desk_after_operation, head_of, woken, desk_after, desk_after_call, after, after_all, begins_wait}
-use Rattle.d3d_machine.specs.Play.{May, SameButWords, IsRunButWords, state_after, calls_by, calls_in}
+use Rattle.d3d_machine.specs.Effects.{effect, after_refused, failed_if, desk_or, dropped, desk_after_operation, head_of, desk_after_call, after, after_all}
+use Rattle.d3d_machine.specs.Play.{state_after}
 use Rattle.d3d_machine.specs.Fences.{update_of_operation, update_of, updates_from, applied_updates, is_met}
-use Rattle.d3d_machine.specs.Marks.{waiting_at, marked_by, current_update, is_awake_of}
+use Rattle.d3d_machine.specs.Marks.{current_update}
 use Rattle.d3d_machine.specs.Shape.{HasShape}
-use Rattle.d3d_machine.proofs.Shape.{run_has_shape, after_has_shape, first_has_shape}
-use Rattle.d3d_machine.proofs.Runs.{state_after_append, updates_from_append}
-use Rattle.d3d_machine.proofs.Places.{place_in, changed_here, changed_other, kept_at, refused_threads, length_called, scripted}
+use Rattle.d3d_machine.proofs.Shape.{after_has_shape, first_has_shape}
+use Rattle.d3d_machine.proofs.Runs.{updates_from_append}
 
 or_false : (b : Bool) → (b || false) ≡ b
 or_false true = refl

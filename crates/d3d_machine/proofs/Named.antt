@@ -1,5 +1,5 @@
 -- A call that may come names objects of the world.
-use Rattle.std.proofs.Common.{ℕ, zero, suc, ◌≡◌, ◌<◌, ◌&&◌, refl, Bool, true, false, List, [], ◌∷◌, length, slice_get, Option, Some, None, arith}
+use Rattle.std.proofs.Common.{ℕ, zero, suc, ◌≡◌, ◌&&◌, refl, Bool, true, false, List, [], ◌∷◌, slice_get, Some, None}
 use Rattle.std.specs.List.{list_all}
 use Rattle.d3d_machine.specs.declared.world.World.{World}
 use Rattle.d3d_machine.specs.declared.calls.Call.{Call}

@@ -1,5 +1,5 @@
 -- The place of a thread after an event, and its calls in a run.
-use Rattle.std.proofs.Common.{ℕ, zero, suc, ◌≡◌, ◌≢◌, ◌<◌, ◌≤◌, ◌+◌, ◌==◌, refl, sym, ap, ◌∙◌, subst, Bool, true, false, cond, List, [], ◌∷◌, ◌++◌, map, take, drop, length, slice_get, length-append, append-nil, add-one, add-zero, ◌⊎◌, inl, inr, Option, Some, None, arith}
+use Rattle.std.proofs.Common.{ℕ, zero, suc, ◌≡◌, ◌≢◌, ◌<◌, ◌+◌, ◌==◌, refl, sym, ap, ◌∙◌, subst, Bool, true, false, List, [], ◌∷◌, ◌++◌, map, take, length, slice_get, length-append, append-nil, add-one, add-zero, ◌⊎◌, inl, inr, Option, Some, None, arith}
 use Rattle.std.proofs.lemmas.Bool.{cases_eq}
 use Rattle.std.proofs.lemmas.Bool.Decides.{nat_tests}
 use Rattle.dx_base.specs.Lists.{changed_at}
@@ -14,10 +14,10 @@ use Rattle.d3d_machine.specs.declared.events.Operation.{Operation}
 use Rattle.d3d_machine.specs.declared.events.Operation.TheVariants as operation
 use Rattle.d3d_machine.specs.declared.events.Event.{Event}
 use Rattle.d3d_machine.specs.declared.events.Event.TheVariants as event
-use Rattle.d3d_machine.specs.State.{Desk, State, Place, place_of, script_of, next_call, value_of, is_recording, list_of, first_state, opening_place}
+use Rattle.d3d_machine.specs.State.{Desk, State, Place, place_of, script_of, next_call, value_of, is_recording, list_of, opening_place}
 use Rattle.d3d_machine.specs.Replies.{refusal}
-use Rattle.d3d_machine.specs.Effects.{effect, after_refused, failed_if, desk_or, counted, takes_value, marked_place, dropped, desk_after_operation, head_of, woken, desk_after, desk_after_call, after, after_all, begins_wait}
-use Rattle.d3d_machine.specs.Play.{May, Plays, SameButWords, IsRunButWords, state_after, calls_by, calls_in, AreOfScripts}
+use Rattle.d3d_machine.specs.Effects.{effect, after_refused, failed_if, desk_or, marked_place, dropped, desk_after_operation, head_of, desk_after_call, after, begins_wait}
+use Rattle.d3d_machine.specs.Play.{May, SameButWords, IsRunButWords, state_after, calls_by, calls_in, AreOfScripts}
 use Rattle.d3d_machine.specs.Shape.{HasShape}
 use Rattle.d3d_machine.proofs.Shape.{run_has_shape}
 use Rattle.d3d_machine.proofs.Runs.{state_after_append, calls_in_append, run_induction}

@@ -1,5 +1,5 @@
 -- The numbers of recording lists stay right when a list changes.
-use Rattle.std.proofs.Common.{ℕ, zero, suc, ◌≡◌, ◌≢◌, ◌<◌, ◌+◌, ◌-◌, ◌==◌, ◌||◌, ◌&&◌, ◌≤◌, inl, inr, not, Bool, true, false, refl, sym, ap, subst, ◌∙◌, cond, List, [], ◌∷◌, map, length, get_or, slice_get, Option, Some, None, zero-add, arith}
+use Rattle.std.proofs.Common.{ℕ, zero, suc, ◌≡◌, ◌<◌, ◌+◌, ◌-◌, ◌==◌, ◌||◌, ◌&&◌, ◌≤◌, inl, inr, not, Bool, true, false, refl, sym, ap, subst, ◌∙◌, List, [], ◌∷◌, map, length, get_or, slice_get, Option, Some, None, zero-add, arith}
 use Rattle.std.proofs.lemmas.Option.{get_or_from_slice_get, slice_get_within}
 use Rattle.std.specs.List.{list_any}
 use Rattle.std.proofs.lemmas.Bool.{cases_eq}
@@ -13,7 +13,7 @@ use Rattle.d3d_machine.specs.declared.world.World.{World}
 use Rattle.d3d_machine.specs.declared.calls.Record.{Record}
 use Rattle.d3d_machine.specs.declared.events.Listed.{Listed}
 use Rattle.d3d_machine.specs.State.{declared_list, is_recording, list_of}
-use Rattle.d3d_machine.specs.Replies.{refuse_if, records_from, has_allocator, record_error}
+use Rattle.d3d_machine.specs.Replies.{refuse_if, records_from, record_error}
 use Rattle.d3d_machine.specs.Effects.{recorded, recorded_or, kept_or, begun, closed, failed}
 use Rattle.d3d_machine.specs.Recorders.{one_if, recorders, CountsRecorders, allocator_if, recorder_of, released, taken}
 use Rattle.d3d_machine.specs.Lists.{lists_or, ended_by, ended, failed_lists_if, lists_after_close}

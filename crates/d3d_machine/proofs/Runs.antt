@@ -1,26 +1,15 @@
 -- A run goes on by an event, and what a run keeps.
-use Rattle.std.proofs.Common.{ℕ, zero, suc, ◌≡◌, ◌≢◌, ◌<◌, ◌≤◌, ◌+◌, ◌==◌, nat_lt, refl, sym, ap, ◌∙◌, subst, Bool, true, false, cond, if◌then◌else◌, List, [], ◌∷◌, ◌++◌, map, take, drop, length, slice_get, length-append, append_assoc, append-nil, add-one, zero-add, inl, inr, Option, Some, None, arith}
-use Rattle.std.proofs.lemmas.Bool.{cases_eq}
-use Rattle.std.proofs.lemmas.Bool.Decides.{nat_tests}
-use Rattle.std.proofs.lemmas.Option.{slice_get_within}
-use Rattle.dx_base.specs.Lists.{changed_at}
-use Rattle.dx_base.specs.declared.hresult.Hresult.{Hresult}
+use Rattle.std.proofs.Common.{ℕ, ◌≡◌, refl, sym, ap, ◌∙◌, subst, List, [], ◌∷◌, ◌++◌, append_assoc, append-nil}
 use Rattle.d3d_machine.specs.declared.world.World.{World}
-use Rattle.d3d_machine.specs.declared.calls.Call.{Call}
-use Rattle.d3d_machine.specs.declared.calls.Call.TheVariants as call
 use Rattle.d3d_machine.specs.declared.calls.Reply.{Reply}
 use Rattle.d3d_machine.specs.declared.calls.Reply.TheVariants as reply
-use Rattle.d3d_machine.specs.declared.events.Operation.{Operation}
-use Rattle.d3d_machine.specs.declared.events.Operation.TheVariants as operation
 use Rattle.d3d_machine.specs.declared.events.Event.{Event}
 use Rattle.d3d_machine.specs.declared.events.Event.TheVariants as event
-use Rattle.d3d_machine.specs.State.{Desk, State, Place, place_of, script_of, next_call, value_of, is_recording, list_of, first_state, opening_place}
-use Rattle.d3d_machine.specs.Replies.{refusal, reply_of}
-use Rattle.d3d_machine.specs.Effects.{effect, after_refused, failed_if, desk_or, counted, takes_value, marked_place, dropped, desk_after_operation, head_of, woken, desk_after, after, after_all, begins_wait}
-use Rattle.d3d_machine.specs.Play.{May, Plays, SameReply, SameButWords, IsRun, IsRunButWords, state_after, calls_by, calls_in, AreOfScripts}
+use Rattle.d3d_machine.specs.State.{State, first_state}
+use Rattle.d3d_machine.specs.Replies.{reply_of}
+use Rattle.d3d_machine.specs.Effects.{after, after_all}
+use Rattle.d3d_machine.specs.Play.{May, Plays, SameReply, SameButWords, IsRunButWords, state_after, calls_by, calls_in}
 use Rattle.d3d_machine.specs.Fences.{update_of, updates_from}
-use Rattle.d3d_machine.specs.Shape.{HasShape}
-use Rattle.d3d_machine.proofs.Shape.{run_has_shape}
 
 -- one event more
 pub after_all_append : (w : World) (s : State) (es : List Event) (e : Event) → after_all w s (es ++ e ∷ []) ≡ after w (after_all w s es) e

@@ -1,6 +1,5 @@
 -- The wait of a thread after an event, and its mark along a run.
-use Rattle.std.proofs.Common.{ℕ, zero, suc, ◌≡◌, ◌≢◌, ◌<◌, ◌≤◌, ◌+◌, ◌==◌, ◌||◌, ◌&&◌, nat_le, refl, sym, ap, ◌∙◌, subst, Bool, true, false, cond, if◌then◌else◌, ◌⊎◌, inl, inr, List, [], ◌∷◌, ◌++◌, map, length, slice_get, length-append, append_assoc, append-nil, Option, Some, None, arith}
-use Rattle.std.specs.List.{list_any}
+use Rattle.std.proofs.Common.{ℕ, zero, suc, ◌≡◌, ◌≢◌, ◌<◌, ◌≤◌, ◌==◌, ◌||◌, nat_le, refl, sym, ap, ◌∙◌, subst, Bool, true, false, if◌then◌else◌, inl, inr, List, [], ◌∷◌, ◌++◌, map, length, append-nil, Option, Some, None, arith}
 use Rattle.std.proofs.lemmas.Bool.{cases_eq}
 use Rattle.std.proofs.lemmas.Bool.Decides.{nat_tests}
 use Rattle.dx_base.specs.Lists.{changed_at}
@@ -15,12 +14,12 @@ use Rattle.d3d_machine.specs.declared.events.Operation.{Operation}
 use Rattle.d3d_machine.specs.declared.events.Operation.TheVariants as operation
 use Rattle.d3d_machine.specs.declared.events.Event.{Event}
 use Rattle.d3d_machine.specs.declared.events.Event.TheVariants as event
-use Rattle.d3d_machine.specs.State.{Waiting, Desk, State, Place, place_of, value_of, first_state, opening_place}
+use Rattle.d3d_machine.specs.State.{Waiting, Desk, State, Place, place_of, value_of}
 use Rattle.d3d_machine.specs.Replies.{refusal}
-use Rattle.d3d_machine.specs.Effects.{effect, after_refused, desk_or, counted, takes_value, marked_wait, marked_option, marked_place, dropped, desk_after_operation, head_of, woken, desk_after, desk_after_call, after, after_all, begins_wait}
-use Rattle.d3d_machine.specs.Play.{May, SameButWords, IsRunButWords, state_after, calls_by, calls_in}
+use Rattle.d3d_machine.specs.Effects.{effect, after_refused, desk_or, marked_wait, marked_option, marked_place, dropped, desk_after_operation, head_of, desk_after_call, after, begins_wait}
+use Rattle.d3d_machine.specs.Play.{May, SameButWords, state_after}
 use Rattle.d3d_machine.specs.Fences.{update_of_operation, update_of, applied_updates, is_met}
-use Rattle.d3d_machine.specs.Marks.{waiting_at, marked_by, current_update, is_awake_of, IsMetSince}
+use Rattle.d3d_machine.specs.Marks.{waiting_at, marked_by, current_update, is_awake_of}
 use Rattle.d3d_machine.specs.Shape.{HasShape}
 use Rattle.d3d_machine.proofs.Shape.{run_has_shape}
 use Rattle.d3d_machine.proofs.Runs.{state_after_append}

@@ -1,5 +1,5 @@
 -- The calls on lists, said of the lists alone: why each is refused, and the lists after it.
-use Rattle.std.specs.Prelude.{ℕ, ◌||◌, not, List, [], ◌∷◌, slice_get, map, Option, Some, None, Result, Ok, Err, Bool, true, false}
+use Rattle.std.specs.Prelude.{ℕ, ◌||◌, not, List, slice_get, map, Option, Some, None, Result, Ok, Err, Bool, true, false}
 use Rattle.std.specs.List.{list_all, list_any}
 use Rattle.dx_base.specs.Lists.{changed_at}
 use Rattle.dx_base.specs.declared.ids.ListId.{ListId}

@@ -1,13 +1,12 @@
 -- Runs: which events may come, and in which order.
-use Rattle.std.specs.Prelude.{ℕ, ◌≡◌, ◌==◌, ◌≤◌, nat_lt, List, [], ◌∷◌, ◌++◌, length, take, slice_get, Option, Some, None, Bool, true, false, if◌then◌else◌}
+use Rattle.std.specs.Prelude.{ℕ, ◌≡◌, ◌==◌, nat_lt, List, [], ◌∷◌, ◌++◌, length, take, Option, Some, None, Bool, true, false, if◌then◌else◌}
 use Rattle.d3d_machine.specs.declared.world.World.{World}
 use Rattle.d3d_machine.specs.declared.calls.Call.{Call}
 use Rattle.d3d_machine.specs.declared.calls.Reply.{Reply}
 use Rattle.d3d_machine.specs.declared.calls.Reply.TheVariants as reply
-use Rattle.d3d_machine.specs.declared.events.Operation.{Operation}
 use Rattle.d3d_machine.specs.declared.events.Event.{Event}
 use Rattle.d3d_machine.specs.declared.events.Event.TheVariants as event
-use Rattle.d3d_machine.specs.State.{Waiting, Place, Desk, State, place_of, next_call, called_of, script_of, first_state}
+use Rattle.d3d_machine.specs.State.{Waiting, Desk, State, place_of, next_call, called_of, script_of, first_state}
 use Rattle.d3d_machine.specs.Replies.{reply_of}
 use Rattle.d3d_machine.specs.Effects.{after, after_all}
 

@@ -1,5 +1,5 @@
 -- The reply of each call: the first refusal whose condition holds, and otherwise what the call answers.
-use Rattle.std.specs.Prelude.{ℕ, ◌≡◌, ◌+◌, ◌*◌, ◌/◌, ◌==◌, ◌&&◌, ◌||◌, not, nat_lt, nat_le, List, [], ◌∷◌, length, slice_get, take, drop, Option, Some, None, Bool, true, false, is_some}
+use Rattle.std.specs.Prelude.{ℕ, ◌*◌, ◌/◌, ◌==◌, ◌&&◌, ◌||◌, not, nat_le, List, length, slice_get, take, drop, Option, Some, None, Bool, true, false, is_some}
 use Rattle.std.specs.List.{list_all, list_any}
 use Rattle.dx_base.specs.Lists.{range_of}
 use Rattle.dx_base.specs.declared.hresult.Hresult.{Hresult}
@@ -14,8 +14,8 @@ use Rattle.d3d_machine.specs.declared.calls.Record.TheVariants.{Copy}
 use Rattle.d3d_machine.specs.declared.calls.Reply.{Reply}
 use Rattle.d3d_machine.specs.declared.calls.Reply.TheVariants as reply
 use Rattle.d3d_machine.specs.declared.events.Listed.{Listed}
-use Rattle.d3d_machine.specs.World.{resource_of, words_in, is_upload, is_readback, is_whole, is_inside, overlaps}
-use Rattle.d3d_machine.specs.State.{Desk, State, list_of, words_at, is_recording, is_recording_state, is_closed_state}
+use Rattle.d3d_machine.specs.World.{resource_of, words_in, is_upload, is_readback, is_inside, overlaps}
+use Rattle.d3d_machine.specs.State.{Desk, State, list_of, words_at, is_recording, is_closed_state}
 
 -- the error where the test holds, and otherwise the refusals behind it
 abbrev pub refuse_if : Bool → Hresult → Option Hresult → Option Hresult

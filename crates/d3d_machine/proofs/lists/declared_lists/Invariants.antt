@@ -1,4 +1,4 @@
-use Rattle.std.proofs.Common.{◌≡◌, ℕ, map, take}
+use Rattle.std.proofs.Common.{◌≡◌, map, take}
 use Rattle.d3d_machine.specs.State.{declared_list}
 use Rattle.d3d_machine.proofs.lists.declared_lists.Given as goal
 

@@ -1,4 +1,4 @@
-use Rattle.std.proofs.Common.{◌≡◌, ℕ, map, take}
+use Rattle.std.proofs.Common.{◌≡◌, map, take}
 use Rattle.d3d_machine.proofs.lists.no_recorders.Given as goal
 
 abbrev pub invariant-loop-of : goal.invariant-loop-of
