@@ -9,3 +9,4 @@ pub mod Buffers
 pub mod Calling
 pub mod Fitting
 pub mod Working
+pub mod Bumping
