@@ -1,5 +1,5 @@
 -- Every step of the system but a free one leaves less work.
-use Rattle.std.proofs.Common.{ℕ, zero, suc, ◌≡◌, ◌≢◌, ◌<◌, ◌≤◌, ◌+◌, ◌-◌, ◌*◌, ◌∙◌, sym, ap, subst, refl, arith, List, [], ◌∷◌, ◌++◌, length, drop, map, Some, None, Option, Bool, true, false, append-nil, length-append, ◌⊎◌, inl, inr, cond, lit≤}
+use Rattle.std.proofs.Common.{ℕ, zero, suc, ◌≡◌, ◌≢◌, ◌<◌, ◌≤◌, ◌+◌, ◌-◌, ◌*◌, ◌∙◌, sym, ap, subst, refl, arith, List, [], ◌∷◌, ◌++◌, length, drop, map, Some, None, Option, Bool, true, false, append-nil, length-append, inl, inr, cond, lit≤}
 use Rattle.std.proofs.lemmas.Bool.{cases_eq}
 use Rattle.std.proofs.lemmas.List.{length-map}
 use Rattle.std.proofs.lemmas.Bool.Decides.{eqb_tells}
@@ -7,7 +7,6 @@ use Rattle.std.specs.List.{slice_get}
 use Rattle.std.specs.Prelude.{if◌then◌else◌, ◌==◌}
 use Rattle.dx_base.specs.Lists.{changed_at}
 use Rattle.dx_base.specs.declared.hresult.Hresult.{Hresult}
-use Rattle.dx_base.specs.declared.ids.ListId.{ListId}
 use Rattle.dx_base.specs.declared.ids.QueueId.{QueueId}
 use Rattle.dx_base.specs.declared.ids.ThreadId.{ThreadId}
 use Rattle.d3d_machine.specs.declared.world.World.{World}
@@ -18,9 +17,9 @@ use Rattle.d3d_machine.specs.declared.events.Operation.{Operation}
 use Rattle.d3d_machine.specs.declared.events.Operation.TheVariants as operation
 use Rattle.d3d_machine.specs.declared.events.Event.{Event}
 use Rattle.d3d_machine.specs.declared.events.Event.TheVariants as event
-use Rattle.d3d_machine.specs.State.{Waiting, Place, Desk, State, first_state, place_of, script_of, next_call, opening_place}
+use Rattle.d3d_machine.specs.State.{Waiting, Place, Desk, State, first_state, place_of, script_of, next_call}
 use Rattle.d3d_machine.specs.Replies.{refusal}
-use Rattle.d3d_machine.specs.Effects.{gathered, marked_place, desk_after_operation, dropped, head_of}
+use Rattle.d3d_machine.specs.Effects.{gathered, marked_option, marked_place, desk_after_operation, dropped, head_of}
 use Rattle.d3d_machine.specs.Play.{state_after}
 use Rattle.d3d_machine.specs.Operations.{operation_of, unless_refused, called_by, operations}
 use Rattle.d3d_machine.proofs.Operations.{operations_append}
@@ -38,7 +37,7 @@ use Rattle.vk_port.specs.Left.{steps_left, lanes_left}
 use Rattle.vk_port.specs.Valid.{IsValid}
 use Rattle.vk_port.specs.VkState.{VkState}
 use Rattle.vk_port.proofs.Falls.{falls, submit_left}
-use Rattle.sys_core.specs.Lowering.{lowered_commands, lower_record, leading, trailing}
+use Rattle.sys_core.specs.Lowering.{lowered_commands, lower_record, trailing}
 use Rattle.sys_core.specs.Steps.{submitted_of, step_events}
 use Rattle.sys_core.specs.Work.{call_weight, operation_weight, calls_work, operations_work, wait_work, place_work, threads_work, sum_from, queue_work, held_work, work}
 use Rattle.sys_core.proofs.Holding.{drop_here}
@@ -249,3 +248,132 @@ pub call_falls : (w : World) (h : List Event) (v u : VkState) (t : ThreadId) (c 
     u.journal ≡ v.journal → u.lanes ≡ v.lanes → work w (h ++ event.Call t c r ∷ []) u < work w h v
 call_falls w h v u t c r next journal lanes =
     omega (arith, threads_called w h t c r next, held_call w h t c r v u journal, call_pays c, ap lanes_left lanes)
+
+-- the queues' work after an event that calls nothing
+held_quiet : (w : World) (h : List Event) (e : Event) (v u : VkState) → ((q : ℕ) → called_by w (state_after w h).desk q e ≡ []) → u.journal ≡ v.journal →
+    held_work w (h ++ e ∷ []) u ≤ held_work w h v
+held_quiet w h e v u none journal =
+    sum_same (queue_work w h v) (queue_work w (h ++ e ∷ []) u) 0 (length w.queues)
+      (λ q from. omega (arith, queue_event w h e v u q journal, ap operations_work (none q)))
+
+-- a thread that waits is one of the world
+waiting_within : (places : List Place) (t : ℕ) (x : Waiting) → (place_in places t).waits ≡ Some x → t < length places
+waiting_within [] t x waits = absurd (cc)
+waiting_within (p ∷ places) zero x waits = omega arith
+waiting_within (p ∷ places) (suc t) x waits = omega (arith, waiting_within places t x waits)
+
+-- a thread's place when it has woken
+abbrev woken_place : Place → Place
+woken_place p = record p { waits = None }
+
+-- a thread that wakes leaves less work
+pub awake_falls : (w : World) (h : List Event) (v : VkState) (t : ThreadId) (x : Waiting) → (place_of (state_after w h).desk t.0).waits ≡ Some x →
+    work w (h ++ event.Awake t ∷ []) v < work w h v
+awake_falls w h v t x waits =
+    let d : Desk = (state_after w h).desk in
+    let p : Place = place_of d t.0 in
+    let threads : (state_after w (h ++ event.Awake t ∷ [])).desk.threads ≡ changed_at woken_place t.0 d.threads =
+      ap (λ (s : State). s.desk.threads) (state_after_append w h (event.Awake t)) in
+    let placed : t.0 < length d.threads = waiting_within d.threads t.0 x waits in
+    let inside : t.0 < length w.scripts = omega (arith, placed, (run_has_shape w h).desk.threads) in
+    let less : threads_work w.scripts (changed_at woken_place t.0 d.threads) + 1 ≤ threads_work w.scripts d.threads + 0 =
+      threads_changed woken_place w.scripts d.threads t.0 1 0 inside placed (omega (arith, ap wait_work waits)) in
+    omega (arith, ap (threads_work w.scripts) threads, less, held_quiet w h (event.Awake t) v v (λ q. refl) refl)
+
+number_behind : (n : ℕ) (bs : List Batch) (b : Batch) → number_after n (bs ++ b ∷ []) ≡ b.number + 1
+number_behind n [] b = refl
+number_behind n (c ∷ bs) b = number_behind (c.number + 1) bs b
+
+-- how many operations are submitted behind a batch, on its queue
+submitted_here : (v : VkState) (b : Batch) (q : ℕ) → b.queue ≡ q → submitted_of (after_submit v b) q ≡ b.number
+submitted_here v b q same =
+    elim (eqb_tells b.queue q) [
+      inl at ↦
+        let behind : of_queue q (v.journal ++ b ∷ []) ≡ of_queue q v.journal ++ b ∷ [] = of_queue_append q v.journal b ∙ ap (λ t. of_queue q v.journal ++ cond t (b ∷ []) []) at.0 in
+        ap (λ bs. number_after (first_number q) bs - 1) behind ∙ omega (arith, number_behind (first_number q) (of_queue q v.journal) b)
+    | inr other ↦ absurd (other.1 same) ]
+
+-- how many are, on another queue
+submitted_there : (v : VkState) (b : Batch) (q : ℕ) → q ≢ b.queue → submitted_of (after_submit v b) q ≡ submitted_of v q
+submitted_there v b q differs =
+    elim (eqb_tells b.queue q) [
+      inl same ↦ absurd (differs (sym same.1))
+    | inr other ↦
+        ap (λ bs. number_after (first_number q) bs - 1)
+          (of_queue_append q v.journal b ∙ ap (λ t. of_queue q v.journal ++ cond t (b ∷ []) []) other.0 ∙ append-nil (of_queue q v.journal)) ]
+
+-- an operation weighs more than the steps of its batch
+operation_pays : (o : Operation) → operation_weight o ≡ 3 + length (lowered_commands o)
+operation_pays (operation.Execute cs) =
+    let commands = map (λ c. lower_record c.what) cs in
+    let many : length (commands ++ trailing ∷ []) ≡ length commands + 1 = length-append commands (trailing ∷ []) in
+    omega (arith, many, length-map cs (λ c. lower_record c.what))
+operation_pays (operation.Signal f v) = refl
+
+-- a queue's work when its next operation is submitted
+queue_submit : (w : World) (h : List Event) (v : VkState) (q : ℕ) (o : Operation) (b : Batch) → slice_get (operations w h q) (submitted_of v q) ≡ Some o →
+    b.queue ≡ q → b.number ≡ submitted_of v q + 1 → queue_work w h (after_submit v b) q + operation_weight o ≡ queue_work w h v q
+queue_submit w h v q o b is queue number =
+    let os : List Operation = operations w h q in
+    let now : queue_work w h (after_submit v b) q ≡ operations_work (drop (submitted_of v q + 1) os) = ap (λ n. operations_work (drop n os)) (submitted_here v b q queue ∙ number) in
+    let before : queue_work w h v q ≡ operation_weight o + operations_work (drop (submitted_of v q + 1) os) = ap operations_work (drop_here (submitted_of v q) os o is) in
+    omega (arith, now, before)
+
+-- the submission of the next operation of a queue leaves less work
+pub submit_falls : (w : World) (h : List Event) (v : VkState) (q : ℕ) (o : Operation) (b : Batch) → q < length w.queues →
+    slice_get (operations w h q) (submitted_of v q) ≡ Some o → b.queue ≡ q → b.number ≡ submitted_of v q + 1 → b.commands ≡ lowered_commands o →
+    IsValid v → q < length v.lanes → work w h (after_submit v b) < work w h v
+submit_falls w h v q o b within is queue number commands valid lane =
+    let less : held_work w h (after_submit v b) + operation_weight o ≤ held_work w h v =
+      sum_less (queue_work w h v) (queue_work w h (after_submit v b)) q (operation_weight o) 0 (length w.queues)
+        (λ p other. omega (arith, ap (λ n. operations_work (drop n (operations w h p))) (submitted_there v b p (λ same. other (same ∙ queue)))))
+        (omega (arith, queue_submit w h v q o b is queue number)) (omega arith) (omega (arith, within)) in
+    let left : steps_left (after_submit v b) ≡ steps_left v + (2 + length b.commands) = submit_left v b valid (omega (arith, queue, lane)) in
+    omega (arith, less, left, operation_pays o, ap length commands)
+
+wait_marked : (f v : ℕ) (o : Option Waiting) → wait_work (marked_option f v o) ≡ wait_work o
+wait_marked f v None = refl
+wait_marked f v (Some x) = refl
+
+place_marked : (f v : ℕ) (script : List Call) (p : Place) → place_work script (marked_place f v p) ≡ place_work script p
+place_marked f v script p = ap (λ n. calls_work (drop p.made script) + n) (wait_marked f v p.waits)
+
+threads_completed : (scripts : List (List Call)) (d : Desk) (o : Option Operation) → threads_work scripts (desk_after_operation d o).threads ≡ threads_work scripts d.threads
+threads_completed scripts d None = refl
+threads_completed scripts d (Some (operation.Execute cs)) = refl
+threads_completed scripts d (Some (operation.Signal f v)) = threads_mapped (marked_place f.0 v) (place_marked f.0 v) scripts d.threads
+
+-- a completion where the device has fewer steps left
+queue_falls : (w : World) (h : List Event) (v u : VkState) (q : QueueId) → u.journal ≡ v.journal → steps_left u < steps_left v →
+    work w (h ++ event.Queue q ∷ []) u < work w h v
+queue_falls w h v u q journal fewer =
+    let d : Desk = (state_after w h).desk in
+    let threads : threads_work w.scripts (state_after w (h ++ event.Queue q ∷ [])).desk.threads ≡ threads_work w.scripts d.threads =
+      ap (λ (s : State). threads_work w.scripts s.desk.threads) (state_after_append w h (event.Queue q)) ∙ threads_completed w.scripts (dropped d q.0) (head_of d q.0) in
+    omega (arith, threads, held_quiet w h (event.Queue q) v u (λ p. refl) journal, fewer)
+
+-- no event where the device has fewer steps left
+silent_falls : (w : World) (h : List Event) (v u : VkState) → u.journal ≡ v.journal → steps_left u < steps_left v → work w (h ++ []) u < work w h v
+silent_falls w h v u journal fewer =
+    let same : work w (h ++ []) u ≡ work w h u = ap (λ k. work w k u) (append-nil h) in
+    let held : held_work w h u ≤ held_work w h v =
+      sum_same (queue_work w h v) (queue_work w h u) 0 (length w.queues)
+        (λ q from. omega (arith, ap (λ (j : List Batch). operations_work (drop (next_number q j - 1) (operations w h q))) journal)) in
+    omega (arith, same, held, fewer)
+
+ended_falls : (w : World) (h : List Event) (v u : VkState) (q : QueueId) (b : Bool) → u.journal ≡ v.journal → steps_left u < steps_left v →
+    work w (h ++ (if b then [] else event.Queue q ∷ [])) u < work w h v
+ended_falls w h v u q true journal fewer = silent_falls w h v u journal fewer
+ended_falls w h v u q false journal fewer = queue_falls w h v u q journal fewer
+
+step_falls : (w : World) (h : List Event) (v : VkState) (s : Stepped) → steps_left (after_step v s) < steps_left v →
+    work w (h ++ step_events s) (after_step v s) < work w h v
+step_falls w h v (stepped.Passed q n) fewer = silent_falls w h v (after_step v (stepped.Passed q n)) refl fewer
+step_falls w h v (stepped.Ran q n k) fewer = silent_falls w h v (after_step v (stepped.Ran q n k)) refl fewer
+step_falls w h v (stepped.Bumped q n) fewer = ended_falls w h v (after_step v (stepped.Bumped q n)) (record { 0 = q }) (n == 0) refl fewer
+step_falls w h v stepped.Free fewer = silent_falls w h v v refl fewer
+
+-- a step of the device leaves less work
+pub device_falls : (w : World) (h : List Event) (v : VkState) (k : ℕ) (s : Stepped) → IsValid v → slice_get (enabled_steps v) k ≡ Some s →
+    work w (h ++ step_events s) (after_step v s) < work w h v
+device_falls w h v k s valid is = step_falls w h v s (falls v valid k s is)

@@ -25,7 +25,8 @@ call_weight (call.HostWait f v) = 2
 call_weight (call.Write b offset ws) = 1
 call_weight (call.Read b offset bytes) = 1
 
--- the steps of an operation: its submission, the pass and the end of its batch, and one for each command
+-- the steps of an operation: its submission, the pass and the end of its batch, and its batch's commands, which
+-- for an execute are two barriers and its own
 abbrev pub operation_weight : Operation → ℕ
 operation_weight (operation.Execute cs) = 5 + length cs
 operation_weight (operation.Signal f v) = 3
@@ -68,7 +69,7 @@ queue_work w h v q = operations_work (drop (submitted_of v q) (operations w h q)
 abbrev pub held_work : World → List Event → VkState → ℕ
 held_work w h v = sum_from (queue_work w h v) 0 (length w.queues)
 
--- no fewer than the steps that the system can still take: those of its threads, those of the operations that are
--- not submitted, and those that the device has left
+-- no fewer than the steps that the system can still take, but for free ones: those of its threads, those of the
+-- operations that are not submitted, and those that the device has left
 abbrev pub work : World → List Event → VkState → ℕ
 work w h v = (threads_work w.scripts (state_after w h).desk.threads + held_work w h v) + steps_left v
