@@ -10,3 +10,4 @@ pub mod Calling
 pub mod Fitting
 pub mod Working
 pub mod Bumping
+pub mod Work

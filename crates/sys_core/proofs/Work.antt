@@ -1,0 +1,379 @@
+-- Every step of the system but a free one leaves less work.
+use Rattle.std.proofs.Common.{ℕ, zero, suc, ◌≡◌, ◌≢◌, ◌<◌, ◌≤◌, ◌+◌, ◌-◌, ◌*◌, ◌∙◌, sym, ap, subst, refl, arith, List, [], ◌∷◌, ◌++◌, length, drop, map, Some, None, Option, Bool, true, false, append-nil, length-append, inl, inr, cond, lit≤}
+use Rattle.std.proofs.lemmas.Bool.{cases_eq}
+use Rattle.std.proofs.lemmas.List.{length-map}
+use Rattle.std.proofs.lemmas.Bool.Decides.{eqb_tells}
+use Rattle.std.specs.List.{slice_get}
+use Rattle.std.specs.Prelude.{if◌then◌else◌, ◌==◌}
+use Rattle.dx_base.specs.Lists.{changed_at}
+use Rattle.dx_base.specs.declared.hresult.Hresult.{Hresult}
+use Rattle.dx_base.specs.declared.ids.QueueId.{QueueId}
+use Rattle.dx_base.specs.declared.ids.ThreadId.{ThreadId}
+use Rattle.d3d_machine.specs.declared.world.World.{World}
+use Rattle.d3d_machine.specs.declared.calls.Call.{Call}
+use Rattle.d3d_machine.specs.declared.calls.Call.TheVariants as call
+use Rattle.d3d_machine.specs.declared.calls.Reply.{Reply}
+use Rattle.d3d_machine.specs.declared.events.Operation.{Operation}
+use Rattle.d3d_machine.specs.declared.events.Operation.TheVariants as operation
+use Rattle.d3d_machine.specs.declared.events.Event.{Event}
+use Rattle.d3d_machine.specs.declared.events.Event.TheVariants as event
+use Rattle.d3d_machine.specs.State.{Waiting, Place, Desk, State, first_state, place_of, script_of, next_call}
+use Rattle.d3d_machine.specs.Replies.{refusal}
+use Rattle.d3d_machine.specs.Effects.{gathered, marked_option, marked_place, desk_after_operation, dropped, head_of}
+use Rattle.d3d_machine.specs.Play.{state_after}
+use Rattle.d3d_machine.specs.Operations.{operation_of, unless_refused, called_by, operations}
+use Rattle.d3d_machine.proofs.Operations.{operations_append}
+use Rattle.d3d_machine.proofs.Places.{place_in, scripted}
+use Rattle.d3d_machine.proofs.Runs.{state_after_append}
+use Rattle.d3d_machine.proofs.Shape.{run_has_shape}
+use Rattle.d3d_machine.proofs.Short.{commands_are_few}
+use Rattle.vk_port.specs.declared.commands.Batch.{Batch}
+use Rattle.vk_port.specs.declared.steps.Stepped.{Stepped}
+use Rattle.vk_port.specs.declared.steps.Stepped.TheVariants as stepped
+use Rattle.vk_port.specs.After.{after_step, after_submit}
+use Rattle.vk_port.specs.Enabled.{enabled_steps}
+use Rattle.vk_port.specs.Journal.{of_queue, number_after, next_number, first_number}
+use Rattle.vk_port.specs.Left.{steps_left, lanes_left}
+use Rattle.vk_port.specs.Valid.{IsValid}
+use Rattle.vk_port.specs.VkState.{VkState}
+use Rattle.vk_port.proofs.Falls.{falls, submit_left}
+use Rattle.sys_core.specs.Lowering.{lowered_commands, lower_record, trailing}
+use Rattle.sys_core.specs.Steps.{submitted_of, step_events}
+use Rattle.sys_core.specs.Work.{call_weight, operation_weight, calls_work, operations_work, wait_work, place_work, threads_work, sum_from, queue_work, held_work, work}
+use Rattle.sys_core.proofs.Holding.{drop_here}
+use Rattle.sys_core.proofs.Seating.{call_place, threads_after_call}
+use Rattle.sys_core.proofs.Standing.{of_queue_append}
+
+-- a sum of numbers none of which grew
+sum_same : (f g : ℕ → ℕ) (n k : ℕ) → ((q : ℕ) → n ≤ q → g q ≤ f q) → sum_from g n k ≤ sum_from f n k
+sum_same f g n zero least = lit≤ tt
+sum_same f g n (suc k) least =
+    omega (arith, least n (omega arith), sum_same f g (n + 1) k (λ q behind. least q (omega (arith, behind))))
+
+-- a sum of numbers of which one grew
+sum_more : (f g : ℕ → ℕ) (p x n k : ℕ) → ((q : ℕ) → q ≢ p → g q ≤ f q) → g p ≤ f p + x → sum_from g n k ≤ sum_from f n k + x
+sum_more f g p x n zero others here = omega arith
+sum_more f g p x n (suc k) others here =
+    elim (cases_eq n p) [
+      inl same ↦
+        let first : g n ≤ f n + x = subst (λ q. g q ≤ f q + x) (sym same) here in
+        let rest : sum_from g (n + 1) k ≤ sum_from f (n + 1) k = sum_same f g (n + 1) k (λ q behind. others q (λ is. omega (arith, behind, same, is))) in
+        omega (arith, first, rest)
+    | inr other ↦
+        let first : g n ≤ f n = others n other in
+        let rest : sum_from g (n + 1) k ≤ sum_from f (n + 1) k + x = sum_more f g p x (n + 1) k others here in
+        omega (arith, first, rest) ]
+
+-- a sum of numbers of which one fell
+sum_less : (f g : ℕ → ℕ) (p x n k : ℕ) → ((q : ℕ) → q ≢ p → g q ≤ f q) → g p + x ≤ f p → n ≤ p → p < n + k → sum_from g n k + x ≤ sum_from f n k
+sum_less f g p x n zero others here from within = absurd (omega (arith, from, within))
+sum_less f g p x n (suc k) others here from within =
+    elim (cases_eq n p) [
+      inl same ↦
+        let first : g n + x ≤ f n = subst (λ q. g q + x ≤ f q) (sym same) here in
+        let rest : sum_from g (n + 1) k ≤ sum_from f (n + 1) k = sum_same f g (n + 1) k (λ q behind. others q (λ is. omega (arith, behind, same, is))) in
+        omega (arith, first, rest)
+    | inr other ↦
+        let first : g n ≤ f n = others n other in
+        let later : n < p = omega (arith, from, other) in
+        let rest : sum_from g (n + 1) k + x ≤ sum_from f (n + 1) k = sum_less f g p x (n + 1) k others here (omega (arith, later)) (omega (arith, within)) in
+        omega (arith, first, rest) ]
+
+-- the script of that thread among scripts
+abbrev script_in : List (List Call) → ℕ → List Call
+script_in scripts t = elim (slice_get scripts t) [ None ↦ [] | Some cs ↦ cs ]
+
+-- the threads' work where the place of one is changed
+threads_changed : (f : Place → Place) (scripts : List (List Call)) (places : List Place) (t a b : ℕ) → t < length scripts → t < length places →
+    place_work (script_in scripts t) (f (place_in places t)) + a ≤ place_work (script_in scripts t) (place_in places t) + b →
+    threads_work scripts (changed_at f t places) + a ≤ threads_work scripts places + b
+threads_changed f [] places t a b scripted placed less = absurd (omega (arith, scripted))
+threads_changed f (script ∷ scripts) [] t a b scripted placed less = absurd (omega (arith, placed))
+threads_changed f (script ∷ scripts) (p ∷ places) zero a b scripted placed less = omega (arith, less)
+threads_changed f (script ∷ scripts) (p ∷ places) (suc t) a b scripted placed less =
+    omega (arith, threads_changed f scripts places t a b (omega (arith, scripted)) (omega (arith, placed)) less)
+
+-- the threads' work where every place is changed and none has more to do
+threads_mapped : (f : Place → Place) → ((script : List Call) (p : Place) → place_work script (f p) ≡ place_work script p) → (scripts : List (List Call)) (places : List Place) →
+    threads_work scripts (map f places) ≡ threads_work scripts places
+threads_mapped f same [] places = refl
+threads_mapped f same (script ∷ scripts) [] = refl
+threads_mapped f same (script ∷ scripts) (p ∷ places) = omega (arith, same script p, threads_mapped f same scripts places)
+
+dropped_less : (n : ℕ) (ys : List Operation) → operations_work (drop n ys) ≤ operations_work ys
+dropped_less zero ys = omega arith
+dropped_less (suc n) [] = omega arith
+dropped_less (suc n) (y ∷ ys) = omega (arith, dropped_less n ys)
+
+-- operations behind others add no more than their own work
+operations_more : (n : ℕ) (xs ys : List Operation) → operations_work (drop n (xs ++ ys)) ≤ operations_work (drop n xs) + operations_work ys
+operations_more zero [] ys = omega arith
+operations_more zero (x ∷ xs) ys = omega (arith, operations_more zero xs ys)
+operations_more (suc n) [] ys = omega (arith, dropped_less (suc n) ys)
+operations_more (suc n) (x ∷ xs) ys = operations_more n xs ys
+
+-- the work of the operation that a call gives a queue, at most
+abbrev given_by : Call → ℕ
+given_by (call.Recording l what) = 0
+given_by (call.Close l) = 0
+given_by (call.Reset l a) = 0
+given_by (call.Execute q ls) = 5 + 1024 * length ls
+given_by (call.Signal q f v) = 3
+given_by (call.HostWait f v) = 0
+given_by (call.Write b offset ws) = 0
+given_by (call.Read b offset bytes) = 0
+
+-- the work of the wait that a call begins
+abbrev begun_by : Call → ℕ
+begun_by (call.Recording l what) = 0
+begun_by (call.Close l) = 0
+begun_by (call.Reset l a) = 0
+begun_by (call.Execute q ls) = 0
+begun_by (call.Signal q f v) = 0
+begun_by (call.HostWait f v) = 1
+begun_by (call.Write b offset ws) = 0
+begun_by (call.Read b offset bytes) = 0
+
+-- a call weighs more than what it causes
+call_pays : (c : Call) → given_by c + begun_by c < call_weight c
+call_pays (call.Recording l what) = omega arith
+call_pays (call.Close l) = omega arith
+call_pays (call.Reset l a) = omega arith
+call_pays (call.Execute q ls) = omega arith
+call_pays (call.Signal q f v) = omega arith
+call_pays (call.HostWait f v) = omega arith
+call_pays (call.Write b offset ws) = omega arith
+call_pays (call.Read b offset bytes) = omega arith
+
+-- the queue to which a call gives an operation
+abbrev queue_of : Call → ℕ
+queue_of (call.Recording l what) = 0
+queue_of (call.Close l) = 0
+queue_of (call.Reset l a) = 0
+queue_of (call.Execute q ls) = q.0
+queue_of (call.Signal q f v) = q.0
+queue_of (call.HostWait f v) = 0
+queue_of (call.Write b offset ws) = 0
+queue_of (call.Read b offset bytes) = 0
+
+given_at_most : (b : Bool) (o : Operation) → operations_work (if b then o ∷ [] else []) ≤ operation_weight o
+given_at_most true o = omega arith
+given_at_most false o = omega arith
+
+operation_few : (w : World) (h : List Event) (q : ℕ) (c : Call) → operations_work (operation_of (state_after w h).desk q c) ≤ given_by c
+operation_few w h q (call.Recording l what) = omega arith
+operation_few w h q (call.Close l) = omega arith
+operation_few w h q (call.Reset l a) = omega arith
+operation_few w h q (call.Execute p ls) =
+    let cs = gathered (state_after w h).desk.lists (map (λ l. l.0) ls) in
+    let few : length cs ≤ 1024 * length ls = commands_are_few w h ls in
+    omega (arith, few, given_at_most (p.0 == q) (operation.Execute cs))
+operation_few w h q (call.Signal p f v) = given_at_most (p.0 == q) (operation.Signal f v)
+operation_few w h q (call.HostWait f v) = omega arith
+operation_few w h q (call.Write b offset ws) = omega arith
+operation_few w h q (call.Read b offset bytes) = omega arith
+
+given_elsewhere : (p q : ℕ) (o : Operation) → q ≢ p → operations_work (if (p == q) then o ∷ [] else []) ≡ 0
+given_elsewhere p q o other =
+    elim (eqb_tells p q) [
+      inl same ↦ absurd (other (sym same.1))
+    | inr differs ↦ ap (λ (b : Bool). operations_work (if b then o ∷ [] else [])) differs.0 ]
+
+operation_none : (d : Desk) (q : ℕ) (c : Call) → q ≢ queue_of c → operations_work (operation_of d q c) ≡ 0
+operation_none d q (call.Recording l what) other = refl
+operation_none d q (call.Close l) other = refl
+operation_none d q (call.Reset l a) other = refl
+operation_none d q (call.Execute p ls) other = given_elsewhere p.0 q (operation.Execute (gathered d.lists (map (λ l. l.0) ls))) other
+operation_none d q (call.Signal p f v) other = given_elsewhere p.0 q (operation.Signal f v) other
+operation_none d q (call.HostWait f v) other = refl
+operation_none d q (call.Write b offset ws) other = refl
+operation_none d q (call.Read b offset bytes) other = refl
+
+refused_less : (r : Option Hresult) (os : List Operation) → operations_work (unless_refused r os) ≤ operations_work os
+refused_less None os = omega arith
+refused_less (Some e) os = omega arith
+
+-- a queue's work grows by what an event calls on it, at most
+queue_event : (w : World) (h : List Event) (e : Event) (v u : VkState) (q : ℕ) → u.journal ≡ v.journal →
+    queue_work w (h ++ e ∷ []) u q ≤ queue_work w h v q + operations_work (called_by w (state_after w h).desk q e)
+queue_event w h e v u q journal =
+    let os : List Operation = operations w h q in
+    let by : List Operation = called_by w (state_after w h).desk q e in
+    let is : queue_work w (h ++ e ∷ []) u q ≡ operations_work (drop (submitted_of v q) (os ++ by)) =
+      ap (λ (j : List Batch). operations_work (drop (next_number q j - 1) (operations w (h ++ e ∷ []) q))) journal
+      ∙ ap (λ xs. operations_work (drop (submitted_of v q) xs)) (operations_append w (first_state w) q h e) in
+    omega (arith, is, operations_more (submitted_of v q) os by)
+
+-- the queues' work after a call
+held_call : (w : World) (h : List Event) (t : ThreadId) (c : Call) (r : Reply) (v u : VkState) → u.journal ≡ v.journal →
+    held_work w (h ++ event.Call t c r ∷ []) u ≤ held_work w h v + given_by c
+held_call w h t c r v u journal =
+    let d : Desk = (state_after w h).desk in
+    let e : Event = event.Call t c r in
+    let given : (q : ℕ) → operations_work (called_by w d q e) ≤ operations_work (operation_of d q c) = λ q. refused_less (refusal w d c) (operation_of d q c) in
+    sum_more (queue_work w h v) (queue_work w (h ++ e ∷ []) u) (queue_of c) (given_by c) 0 (length w.queues)
+      (λ q other. omega (arith, queue_event w h e v u q journal, given q, operation_none d q c other))
+      (omega (arith, queue_event w h e v u (queue_of c) journal, given (queue_of c), operation_few w h (queue_of c) c))
+
+-- a thread's work after its next call
+place_called : (d : Desk) (c : Call) (script : List Call) (p : Place) → calls_work (drop p.made script) ≡ call_weight c + calls_work (drop (p.made + 1) script) →
+    place_work script (call_place d c p) + call_weight c ≤ place_work script p + begun_by c
+place_called d (call.Recording l what) script p paid = omega (arith, paid)
+place_called d (call.Close l) script p paid = omega (arith, paid)
+place_called d (call.Reset l a) script p paid = omega (arith, paid)
+place_called d (call.Execute q ls) script p paid = omega (arith, paid)
+place_called d (call.Signal q f v) script p paid = omega (arith, paid)
+place_called d (call.HostWait f v) script p paid = omega (arith, paid)
+place_called d (call.Write b offset ws) script p paid = omega (arith, paid)
+place_called d (call.Read b offset bytes) script p paid = omega (arith, paid)
+
+-- the threads' work after a call
+threads_called : (w : World) (h : List Event) (t : ThreadId) (c : Call) (r : Reply) → next_call w (state_after w h).desk t.0 ≡ Some c →
+    threads_work w.scripts (state_after w (h ++ event.Call t c r ∷ [])).desk.threads + call_weight c ≤ threads_work w.scripts (state_after w h).desk.threads + begun_by c
+threads_called w h t c r next =
+    let d : Desk = (state_after w h).desk in
+    let p : Place = place_of d t.0 in
+    let script : List Call = script_of w t.0 in
+    let threads : (state_after w (h ++ event.Call t c r ∷ [])).desk.threads ≡ changed_at (call_place d c) t.0 d.threads =
+      ap (λ (s : State). s.desk.threads) (state_after_append w h (event.Call t c r)) ∙ threads_after_call w d t.0 c in
+    let inside : t.0 < length w.scripts = scripted w.scripts t.0 p.made c next in
+    let placed : t.0 < length d.threads = omega (arith, inside, (run_has_shape w h).desk.threads) in
+    let paid : calls_work (drop p.made script) ≡ call_weight c + calls_work (drop (p.made + 1) script) = ap calls_work (drop_here p.made script c next) in
+    let less : threads_work w.scripts (changed_at (call_place d c) t.0 d.threads) + call_weight c ≤ threads_work w.scripts d.threads + begun_by c =
+      threads_changed (call_place d c) w.scripts d.threads t.0 (call_weight c) (begun_by c) inside placed (place_called d c script p paid) in
+    omega (arith, ap (threads_work w.scripts) threads, less)
+
+-- a call leaves less work
+pub call_falls : (w : World) (h : List Event) (v u : VkState) (t : ThreadId) (c : Call) (r : Reply) → next_call w (state_after w h).desk t.0 ≡ Some c →
+    u.journal ≡ v.journal → u.lanes ≡ v.lanes → work w (h ++ event.Call t c r ∷ []) u < work w h v
+call_falls w h v u t c r next journal lanes =
+    omega (arith, threads_called w h t c r next, held_call w h t c r v u journal, call_pays c, ap lanes_left lanes)
+
+-- the queues' work after an event that calls nothing
+held_quiet : (w : World) (h : List Event) (e : Event) (v u : VkState) → ((q : ℕ) → called_by w (state_after w h).desk q e ≡ []) → u.journal ≡ v.journal →
+    held_work w (h ++ e ∷ []) u ≤ held_work w h v
+held_quiet w h e v u none journal =
+    sum_same (queue_work w h v) (queue_work w (h ++ e ∷ []) u) 0 (length w.queues)
+      (λ q from. omega (arith, queue_event w h e v u q journal, ap operations_work (none q)))
+
+-- a thread that waits is one of the world
+waiting_within : (places : List Place) (t : ℕ) (x : Waiting) → (place_in places t).waits ≡ Some x → t < length places
+waiting_within [] t x waits = absurd (cc)
+waiting_within (p ∷ places) zero x waits = omega arith
+waiting_within (p ∷ places) (suc t) x waits = omega (arith, waiting_within places t x waits)
+
+-- a thread's place when it has woken
+abbrev woken_place : Place → Place
+woken_place p = record p { waits = None }
+
+-- a thread that wakes leaves less work
+pub awake_falls : (w : World) (h : List Event) (v : VkState) (t : ThreadId) (x : Waiting) → (place_of (state_after w h).desk t.0).waits ≡ Some x →
+    work w (h ++ event.Awake t ∷ []) v < work w h v
+awake_falls w h v t x waits =
+    let d : Desk = (state_after w h).desk in
+    let p : Place = place_of d t.0 in
+    let threads : (state_after w (h ++ event.Awake t ∷ [])).desk.threads ≡ changed_at woken_place t.0 d.threads =
+      ap (λ (s : State). s.desk.threads) (state_after_append w h (event.Awake t)) in
+    let placed : t.0 < length d.threads = waiting_within d.threads t.0 x waits in
+    let inside : t.0 < length w.scripts = omega (arith, placed, (run_has_shape w h).desk.threads) in
+    let less : threads_work w.scripts (changed_at woken_place t.0 d.threads) + 1 ≤ threads_work w.scripts d.threads + 0 =
+      threads_changed woken_place w.scripts d.threads t.0 1 0 inside placed (omega (arith, ap wait_work waits)) in
+    omega (arith, ap (threads_work w.scripts) threads, less, held_quiet w h (event.Awake t) v v (λ q. refl) refl)
+
+number_behind : (n : ℕ) (bs : List Batch) (b : Batch) → number_after n (bs ++ b ∷ []) ≡ b.number + 1
+number_behind n [] b = refl
+number_behind n (c ∷ bs) b = number_behind (c.number + 1) bs b
+
+-- how many operations are submitted behind a batch, on its queue
+submitted_here : (v : VkState) (b : Batch) (q : ℕ) → b.queue ≡ q → submitted_of (after_submit v b) q ≡ b.number
+submitted_here v b q same =
+    elim (eqb_tells b.queue q) [
+      inl at ↦
+        let behind : of_queue q (v.journal ++ b ∷ []) ≡ of_queue q v.journal ++ b ∷ [] = of_queue_append q v.journal b ∙ ap (λ t. of_queue q v.journal ++ cond t (b ∷ []) []) at.0 in
+        ap (λ bs. number_after (first_number q) bs - 1) behind ∙ omega (arith, number_behind (first_number q) (of_queue q v.journal) b)
+    | inr other ↦ absurd (other.1 same) ]
+
+-- how many are, on another queue
+submitted_there : (v : VkState) (b : Batch) (q : ℕ) → q ≢ b.queue → submitted_of (after_submit v b) q ≡ submitted_of v q
+submitted_there v b q differs =
+    elim (eqb_tells b.queue q) [
+      inl same ↦ absurd (differs (sym same.1))
+    | inr other ↦
+        ap (λ bs. number_after (first_number q) bs - 1)
+          (of_queue_append q v.journal b ∙ ap (λ t. of_queue q v.journal ++ cond t (b ∷ []) []) other.0 ∙ append-nil (of_queue q v.journal)) ]
+
+-- an operation weighs more than the steps of its batch
+operation_pays : (o : Operation) → operation_weight o ≡ 3 + length (lowered_commands o)
+operation_pays (operation.Execute cs) =
+    let commands = map (λ c. lower_record c.what) cs in
+    let many : length (commands ++ trailing ∷ []) ≡ length commands + 1 = length-append commands (trailing ∷ []) in
+    omega (arith, many, length-map cs (λ c. lower_record c.what))
+operation_pays (operation.Signal f v) = refl
+
+-- a queue's work when its next operation is submitted
+queue_submit : (w : World) (h : List Event) (v : VkState) (q : ℕ) (o : Operation) (b : Batch) → slice_get (operations w h q) (submitted_of v q) ≡ Some o →
+    b.queue ≡ q → b.number ≡ submitted_of v q + 1 → queue_work w h (after_submit v b) q + operation_weight o ≡ queue_work w h v q
+queue_submit w h v q o b is queue number =
+    let os : List Operation = operations w h q in
+    let now : queue_work w h (after_submit v b) q ≡ operations_work (drop (submitted_of v q + 1) os) = ap (λ n. operations_work (drop n os)) (submitted_here v b q queue ∙ number) in
+    let before : queue_work w h v q ≡ operation_weight o + operations_work (drop (submitted_of v q + 1) os) = ap operations_work (drop_here (submitted_of v q) os o is) in
+    omega (arith, now, before)
+
+-- the submission of the next operation of a queue leaves less work
+pub submit_falls : (w : World) (h : List Event) (v : VkState) (q : ℕ) (o : Operation) (b : Batch) → q < length w.queues →
+    slice_get (operations w h q) (submitted_of v q) ≡ Some o → b.queue ≡ q → b.number ≡ submitted_of v q + 1 → b.commands ≡ lowered_commands o →
+    IsValid v → q < length v.lanes → work w h (after_submit v b) < work w h v
+submit_falls w h v q o b within is queue number commands valid lane =
+    let less : held_work w h (after_submit v b) + operation_weight o ≤ held_work w h v =
+      sum_less (queue_work w h v) (queue_work w h (after_submit v b)) q (operation_weight o) 0 (length w.queues)
+        (λ p other. omega (arith, ap (λ n. operations_work (drop n (operations w h p))) (submitted_there v b p (λ same. other (same ∙ queue)))))
+        (omega (arith, queue_submit w h v q o b is queue number)) (omega arith) (omega (arith, within)) in
+    let left : steps_left (after_submit v b) ≡ steps_left v + (2 + length b.commands) = submit_left v b valid (omega (arith, queue, lane)) in
+    omega (arith, less, left, operation_pays o, ap length commands)
+
+wait_marked : (f v : ℕ) (o : Option Waiting) → wait_work (marked_option f v o) ≡ wait_work o
+wait_marked f v None = refl
+wait_marked f v (Some x) = refl
+
+place_marked : (f v : ℕ) (script : List Call) (p : Place) → place_work script (marked_place f v p) ≡ place_work script p
+place_marked f v script p = ap (λ n. calls_work (drop p.made script) + n) (wait_marked f v p.waits)
+
+threads_completed : (scripts : List (List Call)) (d : Desk) (o : Option Operation) → threads_work scripts (desk_after_operation d o).threads ≡ threads_work scripts d.threads
+threads_completed scripts d None = refl
+threads_completed scripts d (Some (operation.Execute cs)) = refl
+threads_completed scripts d (Some (operation.Signal f v)) = threads_mapped (marked_place f.0 v) (place_marked f.0 v) scripts d.threads
+
+-- a completion where the device has fewer steps left
+queue_falls : (w : World) (h : List Event) (v u : VkState) (q : QueueId) → u.journal ≡ v.journal → steps_left u < steps_left v →
+    work w (h ++ event.Queue q ∷ []) u < work w h v
+queue_falls w h v u q journal fewer =
+    let d : Desk = (state_after w h).desk in
+    let threads : threads_work w.scripts (state_after w (h ++ event.Queue q ∷ [])).desk.threads ≡ threads_work w.scripts d.threads =
+      ap (λ (s : State). threads_work w.scripts s.desk.threads) (state_after_append w h (event.Queue q)) ∙ threads_completed w.scripts (dropped d q.0) (head_of d q.0) in
+    omega (arith, threads, held_quiet w h (event.Queue q) v u (λ p. refl) journal, fewer)
+
+-- no event where the device has fewer steps left
+silent_falls : (w : World) (h : List Event) (v u : VkState) → u.journal ≡ v.journal → steps_left u < steps_left v → work w (h ++ []) u < work w h v
+silent_falls w h v u journal fewer =
+    let same : work w (h ++ []) u ≡ work w h u = ap (λ k. work w k u) (append-nil h) in
+    let held : held_work w h u ≤ held_work w h v =
+      sum_same (queue_work w h v) (queue_work w h u) 0 (length w.queues)
+        (λ q from. omega (arith, ap (λ (j : List Batch). operations_work (drop (next_number q j - 1) (operations w h q))) journal)) in
+    omega (arith, same, held, fewer)
+
+ended_falls : (w : World) (h : List Event) (v u : VkState) (q : QueueId) (b : Bool) → u.journal ≡ v.journal → steps_left u < steps_left v →
+    work w (h ++ (if b then [] else event.Queue q ∷ [])) u < work w h v
+ended_falls w h v u q true journal fewer = silent_falls w h v u journal fewer
+ended_falls w h v u q false journal fewer = queue_falls w h v u q journal fewer
+
+step_falls : (w : World) (h : List Event) (v : VkState) (s : Stepped) → steps_left (after_step v s) < steps_left v →
+    work w (h ++ step_events s) (after_step v s) < work w h v
+step_falls w h v (stepped.Passed q n) fewer = silent_falls w h v (after_step v (stepped.Passed q n)) refl fewer
+step_falls w h v (stepped.Ran q n k) fewer = silent_falls w h v (after_step v (stepped.Ran q n k)) refl fewer
+step_falls w h v (stepped.Bumped q n) fewer = ended_falls w h v (after_step v (stepped.Bumped q n)) (record { 0 = q }) (n == 0) refl fewer
+step_falls w h v stepped.Free fewer = silent_falls w h v v refl fewer
+
+-- a step of the device leaves less work
+pub device_falls : (w : World) (h : List Event) (v : VkState) (k : ℕ) (s : Stepped) → IsValid v → slice_get (enabled_steps v) k ≡ Some s →
+    work w (h ++ step_events s) (after_step v s) < work w h v
+device_falls w h v k s valid is = step_falls w h v s (falls v valid k s is)
