@@ -1,7 +1,8 @@
 -- The system stays consistent when the device takes a step.
-use Rattle.std.proofs.Common.{ℕ, zero, suc, ◌≡◌, ◌≢◌, ◌<◌, ◌≤◌, ◌+◌, ◌-◌, ◌∙◌, sym, ap, subst, refl, arith, List, [], ◌∷◌, ◌++◌, length, map, take, drop, Some, None, Option, Bool, true, false, append-nil, length-append, get_or, set, ◌⊎◌, inl, inr, cond, length-drop, get_or-set_same, length-map}
+use Rattle.std.proofs.Common.{ℕ, zero, suc, ◌≡◌, ◌≢◌, ◌<◌, ◌≤◌, ◌+◌, ◌-◌, ◌∙◌, sym, ap, subst, refl, arith, List, [], ◌∷◌, ◌++◌, length, map, take, drop, Some, None, Option, Bool, true, false, append-nil, length-append, get_or, set, ◌⊎◌, inl, inr, cond, length-drop, get_or-set_same}
 use Rattle.std.proofs.lemmas.Bool.{lt-ltb, ltb-true, eqb-true}
 use Rattle.std.proofs.lemmas.Bool.Decides.{eqb_tells, nat_tests}
+use Rattle.std.proofs.lemmas.List.{length-map}
 use Rattle.std.proofs.lemmas.Option.{slice_get_within, slice_get-map, get_or_from_slice_get}
 use Rattle.std.specs.List.{slice_get, list_all, slice_index_or}
 use Rattle.std.specs.Option.{option_map}
@@ -33,7 +34,9 @@ use Rattle.vk_port.specs.VkState.{VkState, lane_of, no_lane, counter_of}
 use Rattle.vk_port.specs.After.{after_step, lane_after_bump, lane_after_pass, lane_after_run, after_sets, sets_of}
 use Rattle.sys_core.specs.declared.parts.Signalled.{Signalled}
 use Rattle.sys_core.specs.Lowering.{startup, plan_of_world}
-use Rattle.sys_core.specs.Parts.{Queued, signal_at, without, without_first}
+use Rattle.d3d_machine.specs.Fences.{update_of_operation, applied_updates}
+use Rattle.std.proofs.lemmas.Bool.{eq-eqb}
+use Rattle.sys_core.specs.Parts.{Queued, with_number, signal_at, without, without_first, updated_by}
 use Rattle.sys_core.specs.Stands.{Stands, StandsAt}
 use Rattle.sys_core.specs.Steps.{submitted_of}
 use Rattle.sys_core.specs.Consistent.{IsDevice, finished_of, signals_of}
@@ -62,7 +65,7 @@ first_is w v n valid bump =
     let j : List Batch = of_queue 0 v.journal in
     let front : slice_get (lane_of v 0).batches 0 ≡ Some bump.first = ap (λ (l : Lane). slice_get l.batches 0) lane_is ∙ bump.is_first in
     let some : 0 < length (lane_of v 0).batches = slice_get_within (lane_of v 0).batches 0 bump.first front in
-    let mapped : length (map batch_of (lane_of v 0).batches) ≡ length (lane_of v 0).batches = length-map batch_of (lane_of v 0).batches in
+    let mapped : length (map batch_of (lane_of v 0).batches) ≡ length (lane_of v 0).batches = length-map (lane_of v 0).batches batch_of in
     let count : (lane.finished ≡ length j - length (map batch_of (lane_of v 0).batches)) × (lane.finished < length j) =
       drop_long lane.finished j (map batch_of (lane_of v 0).batches) lane.are_last (omega (arith, some, mapped)) in
     let finished : finished_of v 0 ≡ lane.finished = omega (arith, count.0, mapped) in
@@ -114,6 +117,44 @@ abbrev pub signal_by : ℕ → Operation → Option Signalled
 signal_by n (Execute cs) = None
 signal_by n (Signal f v) = Some (record { number = n; fence = f; value = v })
 
-signal_when : ℕ → Option Signalled → Option Signalled
-unfolding signal_when
-signal_when n o = elim o [ None ↦ None | Some s ↦ if (s.number == n) then Some s else None ]
+unless_number : (n : ℕ) (o : Option Signalled) → ((s : Signalled) → o ≡ Some s → n + 1 ≤ s.number) →
+    with_number n o ≡ None
+unless_number n None later = refl
+unless_number n (Some s) later =
+    elim (eqb_tells s.number n) [
+      inl same ↦ absurd (omega (arith, later s refl, same.1))
+    | inr other ↦ ap (λ t. if t then Some s else None) other.0 ]
+
+-- the first submitted signal is that of the operation that ends, where that is a signal
+signal_found : (n : ℕ) (o : Operation) (more : List Operation) (x : Queued) → x.signals ≡ signals_of n (o ∷ more) → signal_at n x ≡ signal_by n o
+signal_found n (Execute cs) more x is =
+    ap (λ ss. with_number n (slice_get ss 0)) is
+    ∙ unless_number n (slice_get (signals_of (n + 1) more) 0) (λ s at. numbers_rise (n + 1) more s at)
+signal_found n (Signal f v) more x is =
+    ap (λ ss. with_number n (slice_get ss 0)) is
+    ∙ ap (λ t. if t then signal_by n (Signal f v) else None) (eq-eqb n n refl)
+
+-- a queue without the signal of the operation that ends
+without_is : (n : ℕ) (o : Operation) (x : Queued) → (without (signal_by n o) x).signals ≡ without_first o x.signals
+without_is n (Execute cs) x = refl
+without_is n (Signal f v) x = refl
+
+without_keeps : (s : Option Signalled) (x : Queued) → ((without s x).submitted ≡ x.submitted) × ((without s x).last_signal ≡ x.last_signal) × ((without s x).operations ≡ x.operations)
+without_keeps None x = (refl, refl, refl)
+without_keeps (Some s) x = (refl, refl, refl)
+
+-- the fences' updates when an operation has completed
+updated_is : (n : ℕ) (o : Operation) (fences : List (List ℕ)) (f : ℕ) (us : List ℕ) → slice_get fences f ≡ Some us →
+    slice_get (updated_by (signal_by n o) fences) f ≡ Some (us ++ update_of_operation f (Some o))
+updated_is n (Execute cs) fences f us is = is ∙ ap (λ xs. Some xs) (sym (append-nil us))
+updated_is n (Signal g v) fences f us is =
+    elim (eqb_tells g.0 f) [
+      inl same ↦
+        subst (λ k. slice_get (changed_at (λ xs. xs ++ v ∷ []) k fences) f ≡ Some (us ++ v ∷ [])) (sym same.1) (get_changed (λ xs. xs ++ v ∷ []) fences f ∙ ap (option_map (λ xs. xs ++ v ∷ [])) is)
+        ∙ ap (λ t. Some (us ++ (if t then v ∷ [] else []))) (sym same.0)
+    | inr other ↦
+        get_changed_other (λ xs. xs ++ v ∷ []) fences g.0 f other.1 ∙ is ∙ ap (λ xs. Some xs) (sym (append-nil us)) ∙ ap (λ t. Some (us ++ (if t then v ∷ [] else []))) (sym other.0) ]
+
+updated_length : (s : Option Signalled) (fences : List (List ℕ)) → length (updated_by s fences) ≡ length fences
+updated_length None fences = refl
+updated_length (Some s) fences = length_changed (λ us. us ++ s.value ∷ []) fences s.fence.0

@@ -133,9 +133,14 @@ abbrev pub without_first : Operation → List Signalled → List Signalled
 without_first (operation.Execute cs) xs = xs
 without_first (operation.Signal f v) xs = drop 1 xs
 
+-- a signal, where its operation has that number
+abbrev pub with_number : ℕ → Option Signalled → Option Signalled
+with_number n None = None
+with_number n (Some s) = if (s.number == n) then Some s else None
+
 -- the first submitted signal, where its operation has that number
 abbrev pub signal_at : ℕ → Queued → Option Signalled
-signal_at n x = elim (slice_get x.signals 0) [ None ↦ None | Some s ↦ if (s.number == n) then Some s else None ]
+signal_at n x = with_number n (slice_get x.signals 0)
 
 -- the queue, without its first submitted signal where there is one of that number
 abbrev pub without : Option Signalled → Queued → Queued
