@@ -11,3 +11,4 @@ pub mod Changing
 pub mod Valid
 pub mod Falls
 pub mod Matching
+pub mod Examples

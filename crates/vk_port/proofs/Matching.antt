@@ -86,3 +86,10 @@ pub fits_queue : (plan : DevicePlan) (v : VkState) (b : Batch) → Matches plan 
 fits_queue plan v b is fits =
     let there : b.queue < plan.queues = ltb-true b.queue plan.queues (and_parts (nat_lt b.queue plan.queues) (pairs_fit plan b.waits && (pairs_fit plan b.sets && list_all (command_fits plan) b.commands)) fits).0 in
     rw is.lanes there
+
+-- a step leaves as many words of each buffer
+pub step_sizes : (v : VkState) (s : Stepped) → map length (after_step v s).words ≡ map length v.words
+step_sizes v (Passed q n) = refl
+step_sizes v (Ran q n k) = found_kept (command_at n k (lane_of v q).batches) v.words
+step_sizes v (Bumped q n) = refl
+step_sizes v Free = refl

@@ -18,3 +18,4 @@ pub mod Stored
 pub mod Tied
 pub mod Meaning
 pub mod Laws
+pub mod Examples

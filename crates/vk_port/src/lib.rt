@@ -17,6 +17,8 @@ mod plan;
 mod queues;
 mod sets;
 mod steps;
+#[cfg(test)]
+mod tests;
 mod store;
 mod timelines;
 mod words;

@@ -1,0 +1,178 @@
+//! Runs written by hand.
+
+ghost use Rattle.std.specs.Prelude.{◌≡◌, map, length, IfOk, IsSome};
+ghost use Rattle.vk_port.specs.Examples.{two_buffers, one_copy};
+
+use crate::commands::{Batch, VkCommand};
+use crate::device::VkDevice;
+use crate::faults::DeviceFault;
+use crate::flags::{Accesses, Stages};
+use crate::plain::PlainDevice;
+use crate::plan::{DevicePlan, PlanBuffer};
+use crate::sets::NoSets;
+use crate::steps::Stepped;
+use dx_base::{Home, Memory, Seq};
+use std::alloc::Global;
+use std::test::Fail;
+
+/// Two buffers of four words, with so many queues, and a timeline for each.
+fn plan_of(alloc: Global, queues: u32) -> Result<DevicePlan, Memory>
+    ensures { IfOk result (λ plan. plan ≡ two_buffers queues) }
+{
+    let upload = PlanBuffer {
+        words: 4,
+        home: Home::Upload,
+    };
+    let readback = PlanBuffer {
+        words: 4,
+        home: Home::Readback,
+    };
+    Ok(DevicePlan {
+        buffers: Seq::from_vec(vec![in alloc; upload, readback]?),
+        queues,
+        timelines: queues,
+    })
+}
+
+/// A copy of two words of buffer 0 into buffer 1 between two barriers, to be awaited on the queue's timeline.
+fn copy_of(alloc: Global, queue: u32, number: u64, first: u32) -> Result<Batch, Memory>
+    ensures { IfOk result (λ batch. batch ≡ one_copy queue number first) }
+{
+    let leading = VkCommand::Barrier {
+        from: Stages::ALL_COMMANDS,
+        made: Accesses::MEMORY_WRITE,
+        to: Stages::COPY,
+        seen: Accesses::TRANSFER_READ,
+    };
+    let copy = VkCommand::Copy {
+        to: 1,
+        to_first: first,
+        from: 0,
+        from_first: first,
+        words: 2,
+    };
+    let trailing = VkCommand::Barrier {
+        from: Stages::COPY,
+        made: Accesses::TRANSFER_WRITE,
+        to: Stages::HOST,
+        seen: Accesses::HOST_READ,
+    };
+    Ok(Batch {
+        queue,
+        number,
+        waits: Seq::new(alloc),
+        commands: Seq::from_vec(vec![in alloc; leading, copy, trailing]?),
+        sets: Seq::from_vec(vec![in alloc; (queue, 1)]?),
+    })
+}
+
+/// Takes the step of that place, if there is one. The sizes of the buffers stay.
+#[tactic(auto, using(crate::proofs::Matching::step_sizes))]
+fn take<D: VkDevice>(device: &mut D, k: usize) -> Result<Stepped, DeviceFault>
+    requires { IsSome (D.plan_of device.old) }
+    ensures plan { D.plan_of device.new ≡ D.plan_of device.old }
+    ensures sizes { map length (D.state device.new).words ≡ map length (D.state device.old).words }
+{
+    if k < device.enabled() {
+        let step = device.step(k, &mut NoSets)?;
+        Ok(step)
+    } else {
+        Ok(Stepped::Free)
+    }
+}
+
+/// Takes the steps of these places, one after another.
+fn run<D: VkDevice>(alloc: Global, device: &mut D, choices: &[usize]) -> Result<Seq<Stepped>, DeviceFault>
+    requires { IsSome (D.plan_of device.old) }
+    ensures plan { D.plan_of device.new ≡ D.plan_of device.old }
+    ensures sizes { map length (D.state device.new).words ≡ map length (D.state device.old).words }
+{
+    let mut taken = Seq::new(alloc);
+    for choice in choices {
+        let step = take(device, *choice)?;
+        taken.push(step)?;
+    }
+    Ok(taken)
+}
+
+#[test]
+fn a_copy_runs_between_its_barriers(rt: HostRuntime) -> Result<(), Fail> {
+    let alloc = rt.alloc();
+    let plan = plan_of(alloc, 1)?;
+    let batch = copy_of(alloc, 0, 0, 1)?;
+    let mut device = PlainDevice::new(alloc, Vec::new(alloc));
+    device.create(&plan)?;
+    device.host_write(0, 0, [11, 12, 13, 14].as_slice())?;
+    device.submit(batch)?;
+    let taken = run(alloc, &mut device, [0, 0, 0, 0, 0].as_slice())?;
+    let steps = [
+        Stepped::Passed(0, 0),
+        Stepped::Ran(0, 0, 1),
+        Stepped::Ran(0, 0, 2),
+        Stepped::Ran(0, 0, 3),
+        Stepped::Bumped(0, 0),
+    ];
+    assert_eq!(rt; taken.as_slice(), steps.as_slice());
+    let words = device.host_read(1, 0, 4)?;
+    assert_eq!(rt; words.as_slice(), [0, 12, 13, 0].as_slice());
+    Ok(())
+}
+
+#[test]
+fn batches_of_two_queues_overlap(rt: HostRuntime) -> Result<(), Fail> {
+    let alloc = rt.alloc();
+    let plan = plan_of(alloc, 2)?;
+    let one = copy_of(alloc, 0, 0, 0)?;
+    let other = copy_of(alloc, 1, 1, 2)?;
+    let mut device = PlainDevice::new(alloc, Vec::new(alloc));
+    device.create(&plan)?;
+    device.host_write(0, 0, [11, 12, 13, 14].as_slice())?;
+    device.submit(one)?;
+    device.submit(other)?;
+    let taken = run(alloc, &mut device, [1, 1, 0, 1, 0, 1, 1].as_slice())?;
+    let steps = [
+        Stepped::Passed(1, 1),
+        Stepped::Ran(1, 1, 1),
+        Stepped::Passed(0, 0),
+        Stepped::Ran(1, 1, 2),
+        Stepped::Ran(0, 0, 1),
+        Stepped::Ran(1, 1, 3),
+        Stepped::Bumped(1, 1),
+    ];
+    assert_eq!(rt; taken.as_slice(), steps.as_slice());
+    let words = device.host_read(1, 0, 4)?;
+    assert_eq!(rt; words.as_slice(), [0, 0, 13, 14].as_slice());
+    Ok(())
+}
+
+/// The number of the first call that answers `Lost`, of five calls; 0, where none does.
+fn lost_call(alloc: Global, fail: u64) -> Result<u64, DeviceFault> {
+    let plan = plan_of(alloc, 1)?;
+    let batch = copy_of(alloc, 0, 0, 0)?;
+    let mut device = PlainDevice::new(alloc, vec![in alloc; fail].map_err(|_| DeviceFault::Memory)?);
+    if let Err(_) = device.create(&plan) {
+        return Ok(1);
+    }
+    if let Err(_) = device.host_write(0, 0, [1].as_slice()) {
+        return Ok(2);
+    }
+    if let Err(_) = device.submit(batch) {
+        return Ok(3);
+    }
+    if let Err(_) = take(&mut device, 0) {
+        return Ok(4);
+    }
+    if let Err(_) = device.host_read(1, 0, 4) {
+        return Ok(5);
+    }
+    Ok(0)
+}
+
+#[test]
+fn each_call_is_lost_by_its_number(rt: HostRuntime) -> Result<(), Fail> {
+    for number in 1..6 {
+        assert_eq!(rt; lost_call(rt.alloc(), number)?, number);
+    }
+    assert_eq!(rt; lost_call(rt.alloc(), 6)?, 0);
+    Ok(())
+}
