@@ -1,6 +1,6 @@
 //! Texts of the form, and the worlds that they write.
 
-use crate::{ROUNDS, read_world};
+use crate::{ROUNDS, read_world, read_worlds_are_valid};
 use d3d_machine::{Call, Record, Resource, World};
 use dx_base::{AllocatorId, FenceId, Home, ListId, ListType, Memory, QueueId, ResourceId, Seq};
 use std::alloc::{AllocError, Global};
@@ -154,6 +154,7 @@ fn a_text_of_the_form_gives_its_world(rt: HostRuntime) -> Result<(), Fail> {
         let by_hand = world_by_hand(alloc, calls_by_hand(alloc, numbers, number)?)?;
         assert!(rt; found == by_hand, "at {words}");
     }
+    read_worlds_are_valid();
     Ok(())
 }
 
