@@ -1,5 +1,5 @@
 -- The worlds that are read are valid.
-use Rattle.std.proofs.Common.{ℕ, ◌≡◌, ◌&&◌, true, List, [], ◌∷◌, flat_map, Option, Some, None, refl, subst, lit≤}
+use Rattle.std.proofs.Common.{ℕ, ◌≡◌, true, List, [], ◌∷◌, flat_map, Option, Some, None, refl, subst, lit≤}
 use Rattle.std.specs.List.{list_all}
 use Rattle.std.specs.Option.{option_map}
 use Rattle.d3d_machine.specs.declared.calls.Call.{Call}
