@@ -20,7 +20,7 @@ named_calls calls (r ∷ rounds) = named_calls calls rounds
 pub rounds_make_world : (rounds : List Round) → IsWorld (world_of_rounds rounds)
 rounds_make_world rounds = record {
   named = rw (named_calls (flat_map calls_of rounds) rounds) refl;
-  one_queue = lit≤ tt;
+  one_queue = refl;
   threads = lit≤ tt;
   resources = lit≤ tt;
   sizes = refl;
