@@ -13,3 +13,4 @@ pub mod Bumping
 pub mod Work
 pub mod Opening
 pub mod Keeping
+pub mod Threading
