@@ -7,3 +7,4 @@ pub mod Inside
 pub mod Serving
 pub mod Buffers
 pub mod Calling
+pub mod Undone

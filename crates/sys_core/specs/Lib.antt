@@ -6,3 +6,4 @@ pub mod Batches
 pub mod Consistent
 pub mod FaultOf
 pub mod Serving
+pub mod Ahead
