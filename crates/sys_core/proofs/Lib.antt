@@ -8,3 +8,6 @@ pub mod Serving
 pub mod Buffers
 pub mod Calling
 pub mod Undone
+pub mod Ahead
+pub mod AheadSteps
+pub mod Whole

@@ -1,5 +1,5 @@
 -- What the commands that are not done make of the words, and which of them the first step runs.
-use Rattle.std.proofs.Common.{ℕ, zero, suc, ◌≡◌, ◌<◌, ◌≤◌, ◌+◌, ◌-◌, ◌∙◌, sym, ap, subst, refl, arith, List, [], ◌∷◌, ◌++◌, length, drop, take, map, Some, None, Option, Bool, true, false, append-nil, append_assoc, ◌⊎◌, inl, inr, slice_get, slice_set}
+use Rattle.std.proofs.Common.{ℕ, zero, suc, ◌≡◌, ◌<◌, ◌≤◌, ◌+◌, ◌-◌, ◌∙◌, sym, ap, subst, refl, arith, List, [], ◌∷◌, ◌++◌, length, drop, take, map, Some, None, Option, Bool, true, false, append-nil, append_assoc, ◌⊎◌, inl, inr, slice_get, slice_set, replicate}
 use Rattle.std.specs.Prelude.{◌&&◌, nat_lt, if◌then◌else◌}
 use Rattle.std.specs.List.{list_all}
 use Rattle.dx_base.specs.Lists.{changed_at}
@@ -59,6 +59,11 @@ ahead_first_one (o ∷ os) m = refl
 pub undone_append : (rs : List Running) (r : Running) → batches_undone (rs ++ r ∷ []) ≡ batches_undone rs ++ undone r
 undone_append [] r = append-nil (undone r)
 undone_append (x ∷ rs) r = ap (λ cs. undone x ++ cs) (undone_append rs r) ∙ sym (append_assoc (undone x) (batches_undone rs) (undone r))
+
+-- all commands of a batch are left at first
+pub all_unmarked : (cs : List VkCommand) → unmarked cs (replicate (length cs) false) ≡ cs
+all_unmarked [] = refl
+all_unmarked (c ∷ cs) = ap (λ es. c ∷ es) (all_unmarked cs)
 
 -- where all commands of a batch are marked, none is left
 pub none_unmarked : (cs : List VkCommand) (done : List Bool) → list_all (λ mark. mark) done ≡ true → unmarked cs done ≡ []

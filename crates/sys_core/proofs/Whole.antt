@@ -1,0 +1,157 @@
+-- Where host accesses come only when no called operation is incomplete, the history is a run with its words.
+use Rattle.std.proofs.Common.{ℕ, ◌≡◌, ◌<◌, ◌+◌, ◌∙◌, sym, ap, subst, refl, List, [], ◌∷◌, ◌++◌, length, Some, None, Option, Bool, true, false, append-nil, slice_get}
+use Rattle.std.specs.Prelude.{◌==◌, if◌then◌else◌}
+use Rattle.dx_base.specs.declared.ids.ThreadId.{ThreadId}
+use Rattle.dx_base.specs.declared.hresult.Hresult.{Hresult}
+use Rattle.d3d_machine.specs.declared.world.World.{World}
+use Rattle.d3d_machine.specs.declared.calls.Call.{Call}
+use Rattle.d3d_machine.specs.declared.calls.Call.TheVariants as call
+use Rattle.d3d_machine.specs.declared.calls.Reply.{Reply}
+use Rattle.d3d_machine.specs.declared.events.Listed.{Listed}
+use Rattle.d3d_machine.specs.declared.events.Operation.{Operation}
+use Rattle.d3d_machine.specs.declared.events.Event.{Event}
+use Rattle.d3d_machine.specs.declared.events.Event.TheVariants as event
+use Rattle.d3d_machine.specs.World.{IsWorld}
+use Rattle.d3d_machine.specs.State.{State, first_state, place_of, next_call}
+use Rattle.d3d_machine.specs.Replies.{refusal, reply_or, good_reply, reply_of}
+use Rattle.d3d_machine.specs.Effects.{after, after_all}
+use Rattle.d3d_machine.specs.Play.{May, Plays, SameReply, SameButWords, IsRun, IsRunButWords, state_after}
+use Rattle.d3d_machine.specs.Operations.{operations}
+use Rattle.d3d_machine.proofs.Runs.{plays_append}
+use Rattle.vk_port.specs.declared.commands.Batch.{Batch}
+use Rattle.vk_port.specs.declared.steps.Stepped.{Stepped}
+use Rattle.vk_port.specs.declared.steps.Stepped.TheVariants.{Passed, Ran, Bumped, Free}
+use Rattle.vk_port.specs.After.{after_step, after_submit}
+use Rattle.vk_port.specs.Enabled.{enabled_steps}
+use Rattle.vk_port.specs.VkState.{VkState}
+use Rattle.vk_port.specs.VkState as vulkan
+use Rattle.sys_core.specs.Parts.{desk_of, reply_by, device_by}
+use Rattle.sys_core.specs.Lowering.{plan_of_world, startup, lowered_commands}
+use Rattle.sys_core.specs.Steps.{submitted_of, step_events}
+use Rattle.sys_core.specs.Consistent.{IsDevice}
+use Rattle.sys_core.specs.Ahead.{IsAhead, IsQuiet, is_access, is_good_access, is_host_access, AreQuietFrom, AreHostAccessesQuiet, IsWhole}
+use Rattle.sys_core.proofs.Calling.{refusal_is}
+use Rattle.sys_core.proofs.Ahead.{IsWithin, device_within, ahead_first, ahead_awake, quiet_words}
+use Rattle.sys_core.proofs.AheadSteps.{ahead_call, ahead_submit, ahead_step}
+
+quiet_from_append : (w : World) (s : State) (h : List Event) (e : Event) → AreQuietFrom w s h → ((is_host_access w (after_all w s h) e ≡ true) → IsQuiet (after_all w s h)) →
+    AreQuietFrom w s (h ++ e ∷ [])
+quiet_from_append w s [] e are last = (last, tt)
+quiet_from_append w s (d ∷ h) e are last = (are.0, quiet_from_append w (after w s d) h e are.1 last)
+
+quiet_from_front : (w : World) (s : State) (h : List Event) (e : Event) → AreQuietFrom w s (h ++ e ∷ []) → AreQuietFrom w s h
+quiet_from_front w s [] e are = tt
+quiet_from_front w s (d ∷ h) e are = (are.0, quiet_from_front w (after w s d) h e are.1)
+
+quiet_from_last : (w : World) (s : State) (h : List Event) (e : Event) → AreQuietFrom w s (h ++ e ∷ []) → (is_host_access w (after_all w s h) e ≡ true) → IsQuiet (after_all w s h)
+quiet_from_last w s [] e are = are.0
+quiet_from_last w s (d ∷ h) e are = quiet_from_last w (after w s d) h e are.1
+
+-- host accesses stay quiet by an event that is none, or comes where no called operation is incomplete
+pub quiet_append : (w : World) (h : List Event) (e : Event) → AreHostAccessesQuiet w h → ((is_host_access w (state_after w h) e ≡ true) → IsQuiet (state_after w h)) →
+    AreHostAccessesQuiet w (h ++ e ∷ [])
+quiet_append w h e are last = quiet_from_append w (first_state w) h e are last
+
+-- host accesses were quiet before the last event
+pub quiet_front : (w : World) (h : List Event) (e : Event) → AreHostAccessesQuiet w (h ++ e ∷ []) → AreHostAccessesQuiet w h
+quiet_front w h e are = quiet_from_front w (first_state w) h e are
+
+-- the last event, where it is a host access, came where no called operation was incomplete
+pub quiet_last : (w : World) (h : List Event) (e : Event) → AreHostAccessesQuiet w (h ++ e ∷ []) → (is_host_access w (state_after w h) e ≡ true) → IsQuiet (state_after w h)
+quiet_last w h e are = quiet_from_last w (first_state w) h e are
+
+-- the last event of a play could come
+plays_last : (Same : Reply → Reply → Type 0) (w : World) (s : State) (h : List Event) (e : Event) → Plays Same w s (h ++ e ∷ []) → May Same w (after_all w s h) e
+plays_last Same w s [] e plays = plays.0
+plays_last Same w s (d ∷ h) e plays = plays_last Same w (after w s d) h e plays.1
+
+reply_alike : (r : Option Hresult) (c : Call) (m n : List (List ℕ)) → ((is_good_access r c ≡ true) → m ≡ n) → reply_or r (good_reply m c) ≡ reply_or r (good_reply n c)
+reply_alike (Some e) c m n same = refl
+reply_alike None (call.Recording l what) m n same = refl
+reply_alike None (call.Close l) m n same = refl
+reply_alike None (call.Reset l a) m n same = refl
+reply_alike None (call.Execute q ls) m n same = refl
+reply_alike None (call.Signal q f v) m n same = refl
+reply_alike None (call.HostWait f v) m n same = refl
+reply_alike None (call.Write b offset ws) m n same = refl
+reply_alike None (call.Read b offset bytes) m n same = ap (λ ws. good_reply ws (call.Read b offset bytes)) (same refl)
+
+-- the reply by the device's words is the machine's, where the device's words are the machine's at a host access
+pub reply_is : (w : World) (s : State) (lists : List Listed) (v : VkState) (c : Call) → lists ≡ s.desk.lists →
+    ((is_good_access (refusal w s.desk c) c ≡ true) → v.words ≡ s.memory) → reply_by w lists v c ≡ reply_of w s c
+reply_is w s lists v c are same =
+    ap (λ r. reply_or r (good_reply v.words c)) (refusal_is w s.desk lists c are) ∙ reply_alike (refusal w s.desk c) c v.words s.memory same
+
+-- a call with the reply by the device's words may come, with its words
+pub may_call : (w : World) (h : List Event) (lists : List Listed) (v : VkState) (t : ThreadId) (c : Call) →
+    IsRunButWords w h → IsDevice w h v → 0 < length w.queues → lists ≡ (state_after w h).desk.lists →
+    (place_of (state_after w h).desk t.0).waits ≡ None → next_call w (state_after w h).desk t.0 ≡ Some c →
+    ((is_good_access (refusal w (state_after w h).desk c) c ≡ true) → IsQuiet (state_after w h)) → IsAhead w h v →
+    May SameReply w (state_after w h) (event.Call t c (reply_by w lists v c))
+may_call w h lists v t c run device some are waits next quiet is =
+    (waits, next, reply_is w (state_after w h) lists v c are (λ access. quiet_words w h v run device some is (quiet access)))
+
+-- the start
+pub whole_first : (w : World) → IsWorld w → IsWhole w [] (after_submit (vulkan.first_state (plan_of_world w)) (startup w))
+whole_first w world = record { run = λ _. tt; words = λ _. ahead_first w world }
+
+-- a call that is served
+pub whole_call : (w : World) (h : List Event) (lists : List Listed) (v : VkState) (t : ThreadId) (c : Call) →
+    IsRunButWords w h → IsDevice w h v → 0 < length w.queues → lists ≡ (state_after w h).desk.lists →
+    (place_of (state_after w h).desk t.0).waits ≡ None → next_call w (state_after w h).desk t.0 ≡ Some c →
+    IsWhole w h v → IsWhole w (h ++ event.Call t c (reply_by w lists v c) ∷ []) (device_by w lists v c)
+whole_call w h lists v t c run device some are waits next is =
+    let r : Reply = reply_by w lists v c in
+    let e : Event = event.Call t c r in
+    record {
+      run = λ quiet. plays_append SameReply w (first_state w) h e (is.run (quiet_front w h e quiet))
+        (may_call w h lists v t c run device some are waits next (quiet_last w h e quiet) (is.words (quiet_front w h e quiet)));
+      words = λ quiet. ahead_call w h lists v t c r run device some are (quiet_last w h e quiet) (is.words (quiet_front w h e quiet));
+    }
+
+-- a thread that wakes
+pub whole_awake : (w : World) (h : List Event) (v : VkState) (t : ThreadId) → IsDevice w h v → 0 < length w.queues →
+    May SameButWords w (state_after w h) (event.Awake t) → IsWhole w h v → IsWhole w (h ++ event.Awake t ∷ []) v
+whole_awake w h v t device some may is =
+    let e : Event = event.Awake t in
+    record {
+      run = λ quiet. plays_append SameReply w (first_state w) h e (is.run (quiet_front w h e quiet)) may;
+      words = λ quiet. ahead_awake w h v t (device_within w h v device some) (is.words (quiet_front w h e quiet));
+    }
+
+-- the submission of the next operation
+pub whole_submit : (w : World) (h : List Event) (v : VkState) (b : Batch) (o : Operation) → 0 < length v.lanes → slice_get (operations w h 0) (submitted_of v 0) ≡ Some o →
+    b.queue ≡ 0 → b.number ≡ submitted_of v 0 + 1 → b.commands ≡ lowered_commands o → IsWhole w h v → IsWhole w h (after_submit v b)
+whole_submit w h v b o some next queue number cs is = record {
+  run = is.run;
+  words = λ quiet. ahead_submit w h v b o some next queue number cs (is.words quiet);
+}
+
+same_history : (w : World) (h : List Event) → (AreHostAccessesQuiet w (h ++ []) → AreHostAccessesQuiet w h) × (IsRun w h → IsRun w (h ++ []))
+same_history w h = (λ quiet. subst (AreHostAccessesQuiet w) (append-nil h) quiet, λ run. subst (IsRun w) (sym (append-nil h)) run)
+
+-- where a step's event makes a run but for words go on, it makes a run go on, and is no host access
+step_goes_on : (w : World) (h : List Event) (s : Stepped) → IsRunButWords w (h ++ step_events s) →
+    (AreHostAccessesQuiet w (h ++ step_events s) → AreHostAccessesQuiet w h) × (IsRun w h → IsRun w (h ++ step_events s))
+step_goes_on w h (Passed q n) now = same_history w h
+step_goes_on w h (Ran q n k) now = same_history w h
+step_goes_on w h Free now = same_history w h
+step_goes_on w h (Bumped q n) now = by_number (n == 0) now
+  where
+    by_number : (t : Bool) → IsRunButWords w (h ++ (if t then [] else event.Queue (record { 0 = q }) ∷ [])) →
+        (AreHostAccessesQuiet w (h ++ (if t then [] else event.Queue (record { 0 = q }) ∷ [])) → AreHostAccessesQuiet w h)
+        × (IsRun w h → IsRun w (h ++ (if t then [] else event.Queue (record { 0 = q }) ∷ [])))
+    by_number true now = same_history w h
+    by_number false now =
+      let e : Event = event.Queue (record { 0 = q }) in
+      (λ quiet. quiet_front w h e quiet, λ run. plays_append SameReply w (first_state w) h e run (plays_last SameButWords w (first_state w) h e now))
+
+-- the first step of the device
+pub whole_step : (w : World) (h : List Event) (v : VkState) (s : Stepped) → IsWorld w → IsRunButWords w h → IsDevice w h v → 0 < length w.queues →
+    slice_get (enabled_steps v) 0 ≡ Some s → IsRunButWords w (h ++ step_events s) → IsWhole w h v → IsWhole w (h ++ step_events s) (after_step v s)
+whole_step w h v s world run device some at now is =
+    let goes : (AreHostAccessesQuiet w (h ++ step_events s) → AreHostAccessesQuiet w h) × (IsRun w h → IsRun w (h ++ step_events s)) = step_goes_on w h s now in
+    record {
+      run = λ quiet. goes.1 (is.run (goes.0 quiet));
+      words = λ quiet. ahead_step w h v s world run device some at (is.words (goes.0 quiet));
+    }
