@@ -1,60 +1,40 @@
 -- The device's words with what it has yet to do stay the machine's memory with what it has yet to complete.
-use Rattle.std.proofs.Common.{ℕ, zero, suc, ◌≡◌, ◌<◌, ◌≤◌, ◌+◌, ◌-◌, ◌∙◌, sym, ap, subst, refl, arith, List, [], ◌∷◌, ◌++◌, length, drop, take, map, replicate, Some, None, Option, Bool, true, false, append-nil, ◌⊎◌, inl, inr, slice_get, get_or, is_some}
-use Rattle.std.specs.Prelude.{◌==◌, if◌then◌else◌}
+use Rattle.std.proofs.Common.{ℕ, zero, suc, ◌≡◌, ◌<◌, ◌≤◌, ◌-◌, ◌∙◌, sym, ap, refl, arith, List, [], ◌∷◌, ◌++◌, length, drop, map, replicate, Some, None, Option, true, false, slice_get, get_or, is_some}
 use Rattle.std.specs.List.{list_all}
-use Rattle.std.proofs.lemmas.Bool.{cases_Bool}
-use Rattle.std.proofs.lemmas.List.{drop-append-le, drop-drop, length-drop, length-map}
-use Rattle.std.proofs.lemmas.Option.{slice_get_within, get_or_from_slice_get}
+use Rattle.std.proofs.lemmas.List.{drop-append-le, length-drop, length-map}
 use Rattle.dx_base.specs.Lists.{changed_at}
 use Rattle.dx_base.specs.declared.ids.ThreadId.{ThreadId}
 use Rattle.dx_base.specs.declared.kinds.ListType.{ListType}
-use Rattle.dx_base.specs.declared.hresult.Hresult.{Hresult}
-use Rattle.dx_base.proofs.Lists.{get_or_changed}
 use Rattle.d3d_machine.specs.declared.world.World.{World}
 use Rattle.d3d_machine.specs.declared.world.Resource.{Resource}
 use Rattle.d3d_machine.specs.declared.world.Resource.TheVariants.{Buffer}
-use Rattle.d3d_machine.specs.declared.calls.Call.{Call}
-use Rattle.d3d_machine.specs.declared.calls.Call.TheVariants as call
-use Rattle.d3d_machine.specs.declared.calls.Reply.{Reply}
-use Rattle.d3d_machine.specs.declared.events.Listed.{Listed}
 use Rattle.d3d_machine.specs.declared.events.Operation.{Operation}
 use Rattle.d3d_machine.specs.declared.events.Event.{Event}
 use Rattle.d3d_machine.specs.declared.events.Event.TheVariants as event
 use Rattle.d3d_machine.specs.World.{IsWorld}
 use Rattle.d3d_machine.specs.State.{State, first_state, zeros, called_of}
-use Rattle.d3d_machine.specs.Replies.{refusal}
-use Rattle.d3d_machine.specs.Effects.{memory_or, written, memory_after, memory_after_operation, head_of}
+use Rattle.d3d_machine.specs.Effects.{memory_after}
 use Rattle.d3d_machine.specs.Play.{IsRunButWords, SameButWords, state_after}
 use Rattle.d3d_machine.specs.Operations.{operations, counter, completions_by, called_by}
 use Rattle.d3d_machine.proofs.Operations.{operations_append, counter_append, called_after, HoldsRest}
 use Rattle.d3d_machine.proofs.Runs.{state_after_append}
 use Rattle.vk_port.specs.declared.commands.Batch.{Batch}
 use Rattle.vk_port.specs.declared.commands.VkCommand.{VkCommand}
-use Rattle.vk_port.specs.declared.lanes.Lane.{Lane}
 use Rattle.vk_port.specs.declared.lanes.Running.{Running}
-use Rattle.vk_port.specs.declared.plan.PlanBuffer.{PlanBuffer}
-use Rattle.vk_port.specs.declared.steps.Stepped.{Stepped}
-use Rattle.vk_port.specs.declared.steps.Stepped.TheVariants.{Passed, Ran, Bumped, Free}
-use Rattle.vk_port.specs.After.{after_command, after_found, command_at, found_commands, place_of, with_done, lane_after_run, lane_after_pass, lane_after_bump, lane_after_submit, started, after_step, after_submit}
-use Rattle.vk_port.specs.Enabled.{undone, unmarked, passes, commands, bumps, enabled_steps}
-use Rattle.vk_port.specs.Journal.{of_queue, first_number, number_after}
-use Rattle.vk_port.specs.Meaning.{IsEnabled, IsPass, IsCommand, IsBump}
-use Rattle.vk_port.specs.Valid.{IsValid, IsLane, batch_of}
+use Rattle.vk_port.specs.After.{lane_after_submit, after_submit}
+use Rattle.vk_port.specs.Enabled.{unmarked}
+use Rattle.vk_port.specs.Journal.{of_queue}
+use Rattle.vk_port.specs.Valid.{IsLane, batch_of}
 use Rattle.vk_port.specs.VkState.{VkState, lane_of, no_lane, first_words}
 use Rattle.vk_port.specs.VkState as vulkan
 use Rattle.vk_port.proofs.Lists.{item_at}
-use Rattle.vk_port.proofs.Falls.{valid_place}
-use Rattle.vk_port.proofs.Enabled.{enabled_means}
-use Rattle.sys_core.specs.Parts.{desk_of, device_by}
-use Rattle.sys_core.specs.Lowering.{plan_buffers, plan_of_world, startup, lowered_commands}
+use Rattle.sys_core.specs.Lowering.{plan_buffers, plan_of_world, startup}
 use Rattle.sys_core.specs.Stands.{StandsAt}
-use Rattle.sys_core.specs.Steps.{submitted_of, step_events}
+use Rattle.sys_core.specs.Steps.{submitted_of}
 use Rattle.sys_core.specs.Consistent.{IsDevice}
-use Rattle.sys_core.specs.Ahead.{run_commands, batches_undone, memory_ahead, held_commands, IsAhead, IsQuiet, is_access, is_good_access}
+use Rattle.sys_core.specs.Ahead.{run_commands, batches_undone, memory_ahead, held_commands, IsAhead, IsQuiet}
 use Rattle.sys_core.proofs.Standing.{submitted_is}
-use Rattle.sys_core.proofs.Calling.{refusal_is}
-use Rattle.sys_core.proofs.Holding.{drop_here}
-use Rattle.sys_core.proofs.Undone.{run_append, ahead_append, held_is_effect, ahead_first_one, undone_append, undone_behind, IsFirstIn, first_ran}
+use Rattle.sys_core.proofs.Undone.{run_append, ahead_append, held_is_effect}
 
 -- the claim, with the commands of the operations that are not submitted in place of what they do
 pub ahead_in_commands : (w : World) (h : List Event) (v : VkState) → IsAhead w h v →
@@ -85,6 +65,7 @@ pub record IsWithin (w : World) (h : List Event) (v : VkState) : Type 0 where
   pub submitted : submitted_of v 0 ≤ length (operations w h 0)
   pub complete : counter h 0 ≤ submitted_of v 0
 
+-- a device that stands keeps these bounds
 pub device_within : (w : World) (h : List Event) (v : VkState) → IsDevice w h v → 0 < length w.queues → IsWithin w h v
 device_within w h v is some =
     let at : StandsAt w h is.stands.rest v 0 = is.stands.queues 0 some in
@@ -124,13 +105,14 @@ ahead_event w h e v words within none same =
 pub ahead_awake : (w : World) (h : List Event) (v : VkState) (t : ThreadId) → IsWithin w h v → IsAhead w h v → IsAhead w (h ++ event.Awake t ∷ []) v
 ahead_awake w h v t within is = ahead_event w h (event.Awake t) v v.words within refl is.ahead
 
--- where no called operation is incomplete, nothing is left to do
+-- nothing is left to do: no command, no operation that is not submitted, none that is not complete
 pub record IsIdle (w : World) (h : List Event) (v : VkState) : Type 0 where
   pub undone : batches_undone (lane_of v 0).batches ≡ []
   pub held : drop (submitted_of v 0) (operations w h 0) ≡ []
   pub called : drop (counter h 0) (operations w h 0) ≡ []
 
-drop_past : {A : Type 0} (n : ℕ) (xs : List A) → length xs ≤ n → drop n xs ≡ []
+-- past the end nothing is left of a list
+pub drop_past : {A : Type 0} (n : ℕ) (xs : List A) → length xs ≤ n → drop n xs ≡ []
 drop_past zero [] le = refl
 drop_past (suc n) [] le = refl
 drop_past zero (x ∷ xs) le = absurd (omega arith)
@@ -147,6 +129,7 @@ only_startup zero b [] (r ∷ []) is all none =
 only_startup (suc n) b later (r ∷ rs) is all none =
     absurd (omega (arith, ap length is, ap length (drop_past n later (omega (arith, all)))))
 
+-- where no called operation is incomplete, a device that stands has nothing left to do
 pub quiet_is_idle : (w : World) (h : List Event) (v : VkState) → IsRunButWords w h → IsDevice w h v → 0 < length w.queues → IsQuiet (state_after w h) → IsIdle w h v
 quiet_is_idle w h v run is some quiet =
     let rest : List Batch = is.stands.rest in
@@ -172,8 +155,3 @@ idle_words w h v is idle =
     ap (λ cs. run_commands cs v.words) (sym idle.undone)
     ∙ ap (λ os. memory_ahead os (run_commands (batches_undone (lane_of v 0).batches) v.words)) (sym idle.held)
     ∙ is.ahead ∙ ap (λ os. memory_ahead os (state_after w h).memory) idle.called
-
--- where no called operation is incomplete, the device's words are the machine's memory
-pub quiet_words : (w : World) (h : List Event) (v : VkState) → IsRunButWords w h → IsDevice w h v → 0 < length w.queues → IsAhead w h v → IsQuiet (state_after w h) →
-    v.words ≡ (state_after w h).memory
-quiet_words w h v run device some is quiet = idle_words w h v is (quiet_is_idle w h v run device some quiet)

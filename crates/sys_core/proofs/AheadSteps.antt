@@ -1,5 +1,5 @@
 -- What a call, a submission and the first step of the device leave of the words ahead.
-use Rattle.std.proofs.Common.{ℕ, zero, suc, ◌≡◌, ◌<◌, ◌≤◌, ◌+◌, ◌-◌, ◌∙◌, sym, ap, subst, refl, arith, List, [], ◌∷◌, ◌++◌, length, drop, take, map, Some, None, Option, Bool, true, false, append-nil, ◌⊎◌, inl, inr, slice_get, get_or}
+use Rattle.std.proofs.Common.{ℕ, ◌≡◌, ◌<◌, ◌+◌, ◌-◌, ◌∙◌, sym, ap, subst, refl, arith, List, [], ◌∷◌, ◌++◌, length, drop, Some, None, Option, Bool, true, false, append-nil, inl, inr, slice_get, get_or}
 use Rattle.std.specs.Prelude.{◌==◌, if◌then◌else◌}
 use Rattle.std.proofs.lemmas.Bool.{cases_Bool}
 use Rattle.std.proofs.lemmas.List.{drop-drop}
@@ -31,8 +31,8 @@ use Rattle.vk_port.specs.declared.lanes.Lane.{Lane}
 use Rattle.vk_port.specs.declared.lanes.Running.{Running}
 use Rattle.vk_port.specs.declared.steps.Stepped.{Stepped}
 use Rattle.vk_port.specs.declared.steps.Stepped.TheVariants.{Passed, Ran, Bumped, Free}
-use Rattle.vk_port.specs.After.{after_command, after_found, command_at, found_commands, place_of, with_done, lane_after_run, lane_after_pass, lane_after_bump, lane_after_submit, started, after_step, after_submit}
-use Rattle.vk_port.specs.Enabled.{passes, commands, bumps, enabled_steps, all_done}
+use Rattle.vk_port.specs.After.{after_found, command_at, found_commands, place_of, with_done, lane_after_run, lane_after_pass, lane_after_bump, lane_after_submit, started, after_step, after_submit}
+use Rattle.vk_port.specs.Enabled.{passes, commands, bumps, enabled_steps}
 use Rattle.vk_port.specs.Journal.{of_queue, number_after}
 use Rattle.vk_port.specs.Meaning.{IsEnabled, IsBump}
 use Rattle.vk_port.specs.Valid.{IsValid}
@@ -48,7 +48,7 @@ use Rattle.sys_core.proofs.Standing.{of_queue_append}
 use Rattle.sys_core.proofs.Calling.{refusal_is}
 use Rattle.sys_core.proofs.Holding.{drop_here}
 use Rattle.sys_core.proofs.Undone.{run_append, lowered_is_effect, ahead_first_one, undone_append, all_unmarked, undone_behind, IsFirstIn, first_ran}
-use Rattle.sys_core.proofs.Ahead.{IsWithin, device_within, called_now, ahead_event, IsIdle, quiet_is_idle, idle_words}
+use Rattle.sys_core.proofs.Ahead.{device_within, called_now, ahead_event, IsIdle, quiet_is_idle, idle_words}
 
 -- a call that is no host access, or is refused, writes nothing
 stays : (r : Option Hresult) (c : Call) → is_good_access r c ≡ false → (m : List (List ℕ)) → memory_or r (written c m) m ≡ m
@@ -217,8 +217,17 @@ step_kind w h v (Bumped q n) run valid some one is e at =
       (after_bump w h v n run some (omega arith) is) e
 step_kind w h v Free run valid some one is e at = absurd e
 
+-- a step that can be taken is one of a queue
+some_queue : (v : VkState) (s : Stepped) → IsEnabled v s → 0 < length v.lanes
+some_queue v (Passed q n) e = let within : q < length v.lanes = slice_get_within v.lanes q e.lane e.there in omega arith
+some_queue v (Ran q n k) e = let within : q < length v.lanes = slice_get_within v.lanes q e.lane e.there in omega arith
+some_queue v (Bumped q n) e = let within : q < length v.lanes = slice_get_within v.lanes q e.lane e.there in omega arith
+some_queue v Free e = absurd e
+
 -- the first step of the device
-pub ahead_step : (w : World) (h : List Event) (v : VkState) (s : Stepped) → IsWorld w → IsRunButWords w h → IsDevice w h v → 0 < length w.queues →
+pub ahead_step : (w : World) (h : List Event) (v : VkState) (s : Stepped) → IsWorld w → IsRunButWords w h → IsDevice w h v →
     slice_get (enabled_steps v) 0 ≡ Some s → IsAhead w h v → IsAhead w (h ++ step_events s) (after_step v s)
-ahead_step w h v s world run device some at is =
-    step_kind w h v s run device.valid some (omega (arith, device.objects.lanes, world.one_queue, some)) is (enabled_means v 0 s at) at
+ahead_step w h v s world run device at is =
+    let enabled : IsEnabled v s = enabled_means v 0 s at in
+    let some : 0 < length w.queues = omega (arith, device.objects.lanes, some_queue v s enabled) in
+    step_kind w h v s run device.valid some (omega (arith, device.objects.lanes, world.one_queue, some)) is enabled at

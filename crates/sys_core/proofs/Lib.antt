@@ -10,4 +10,5 @@ pub mod Calling
 pub mod Undone
 pub mod Ahead
 pub mod AheadSteps
+pub mod NoQueue
 pub mod Whole

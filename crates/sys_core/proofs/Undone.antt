@@ -1,5 +1,5 @@
 -- What the commands that are not done make of the words, and which of them the first step runs.
-use Rattle.std.proofs.Common.{ℕ, zero, suc, ◌≡◌, ◌<◌, ◌≤◌, ◌+◌, ◌-◌, ◌∙◌, sym, ap, subst, refl, arith, List, [], ◌∷◌, ◌++◌, length, drop, take, map, Some, None, Option, Bool, true, false, append-nil, append_assoc, ◌⊎◌, inl, inr, slice_get, slice_set, replicate}
+use Rattle.std.proofs.Common.{ℕ, zero, suc, ◌≡◌, ◌+◌, ◌-◌, ◌∙◌, sym, ap, subst, refl, arith, List, [], ◌∷◌, ◌++◌, length, drop, take, Some, None, Option, Bool, true, false, append-nil, append_assoc, ◌⊎◌, inl, inr, slice_get, slice_set, replicate}
 use Rattle.std.specs.Prelude.{◌&&◌, nat_lt, if◌then◌else◌}
 use Rattle.std.specs.List.{list_all}
 use Rattle.dx_base.specs.Lists.{changed_at}
@@ -9,15 +9,13 @@ use Rattle.d3d_machine.specs.declared.events.Command.{Command}
 use Rattle.d3d_machine.specs.declared.events.Operation.{Operation}
 use Rattle.d3d_machine.specs.declared.events.Operation.TheVariants.{Execute, Signal}
 use Rattle.d3d_machine.specs.Effects.{after_record, after_commands, memory_after_operation}
-use Rattle.vk_port.specs.declared.commands.Batch.{Batch}
 use Rattle.vk_port.specs.declared.commands.VkCommand.{VkCommand}
 use Rattle.vk_port.specs.declared.lanes.Lane.{Lane}
 use Rattle.vk_port.specs.declared.lanes.Running.{Running}
 use Rattle.vk_port.specs.declared.steps.Stepped.{Stepped}
-use Rattle.vk_port.specs.declared.steps.Stepped.TheVariants.{Passed, Ran, Bumped, Free}
+use Rattle.vk_port.specs.declared.steps.Stepped.TheVariants.{Passed, Ran, Bumped}
 use Rattle.vk_port.specs.After.{after_command, with_done}
 use Rattle.vk_port.specs.Enabled.{undone, unmarked, reached, all_done, batch_commands, lane_commands, passes, commands, bumps}
-use Rattle.vk_port.specs.Valid.{batch_of}
 use Rattle.sys_core.specs.Lowering.{lower_record, lower_commands, lowered_commands, trailing}
 use Rattle.sys_core.specs.Ahead.{run_commands, batches_undone, held_commands, memory_ahead}
 

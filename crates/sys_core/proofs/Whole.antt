@@ -1,5 +1,6 @@
 -- Where host accesses come only when no called operation is incomplete, the history is a run with its words.
-use Rattle.std.proofs.Common.{ℕ, ◌≡◌, ◌<◌, ◌+◌, ◌∙◌, sym, ap, subst, refl, List, [], ◌∷◌, ◌++◌, length, Some, None, Option, Bool, true, false, append-nil, slice_get}
+use Rattle.std.proofs.Common.{ℕ, ◌≡◌, ◌<◌, ◌+◌, ◌∙◌, sym, ap, subst, refl, List, [], ◌∷◌, ◌++◌, length, Some, None, Option, Bool, true, false, append-nil, slice_get, inl, inr, arith, ◌≤◌}
+use Rattle.std.proofs.lemmas.Bool.{cases_lt}
 use Rattle.std.specs.Prelude.{◌==◌, if◌then◌else◌}
 use Rattle.dx_base.specs.declared.ids.ThreadId.{ThreadId}
 use Rattle.dx_base.specs.declared.hresult.Hresult.{Hresult}
@@ -14,10 +15,10 @@ use Rattle.d3d_machine.specs.declared.events.Event.TheVariants as event
 use Rattle.d3d_machine.specs.World.{IsWorld}
 use Rattle.d3d_machine.specs.State.{State, first_state, place_of, next_call}
 use Rattle.d3d_machine.specs.Replies.{refusal, reply_or, good_reply, reply_of}
-use Rattle.d3d_machine.specs.Effects.{after, after_all}
+use Rattle.d3d_machine.specs.Effects.{after, after_all, memory_or, written}
 use Rattle.d3d_machine.specs.Play.{May, Plays, SameReply, SameButWords, IsRun, IsRunButWords, state_after}
 use Rattle.d3d_machine.specs.Operations.{operations}
-use Rattle.d3d_machine.proofs.Runs.{plays_append}
+use Rattle.d3d_machine.proofs.Runs.{plays_append, run_append}
 use Rattle.vk_port.specs.declared.commands.Batch.{Batch}
 use Rattle.vk_port.specs.declared.steps.Stepped.{Stepped}
 use Rattle.vk_port.specs.declared.steps.Stepped.TheVariants.{Passed, Ran, Bumped, Free}
@@ -29,9 +30,11 @@ use Rattle.sys_core.specs.Parts.{desk_of, reply_by, device_by}
 use Rattle.sys_core.specs.Lowering.{plan_of_world, startup, lowered_commands}
 use Rattle.sys_core.specs.Steps.{submitted_of, step_events}
 use Rattle.sys_core.specs.Consistent.{IsDevice}
-use Rattle.sys_core.specs.Ahead.{IsAhead, IsQuiet, is_access, is_good_access, is_host_access, AreQuietFrom, AreHostAccessesQuiet, IsWhole}
-use Rattle.sys_core.proofs.Calling.{refusal_is}
-use Rattle.sys_core.proofs.Ahead.{IsWithin, device_within, ahead_first, ahead_awake, quiet_words}
+use Rattle.sys_core.specs.Ahead.{IsAhead, IsQuiet, is_good_access, is_host_access, AreQuietFrom, AreHostAccessesQuiet, IsWhole}
+use Rattle.sys_core.proofs.Calling.{refusal_is, replies_alike}
+use Rattle.sys_core.proofs.Buffers.{same_sizes}
+use Rattle.sys_core.proofs.Ahead.{device_within, ahead_first, ahead_awake, idle_words}
+use Rattle.sys_core.proofs.NoQueue.{no_queue_event, no_queue_idle, quiet_words}
 use Rattle.sys_core.proofs.AheadSteps.{ahead_call, ahead_submit, ahead_step}
 
 quiet_from_append : (w : World) (s : State) (h : List Event) (e : Event) → AreQuietFrom w s h → ((is_host_access w (after_all w s h) e ≡ true) → IsQuiet (after_all w s h)) →
@@ -84,39 +87,65 @@ reply_is w s lists v c are same =
 
 -- a call with the reply by the device's words may come, with its words
 pub may_call : (w : World) (h : List Event) (lists : List Listed) (v : VkState) (t : ThreadId) (c : Call) →
-    IsRunButWords w h → IsDevice w h v → 0 < length w.queues → lists ≡ (state_after w h).desk.lists →
+    IsWorld w → IsRunButWords w h → IsDevice w h v → lists ≡ (state_after w h).desk.lists →
     (place_of (state_after w h).desk t.0).waits ≡ None → next_call w (state_after w h).desk t.0 ≡ Some c →
     ((is_good_access (refusal w (state_after w h).desk c) c ≡ true) → IsQuiet (state_after w h)) → IsAhead w h v →
     May SameReply w (state_after w h) (event.Call t c (reply_by w lists v c))
-may_call w h lists v t c run device some are waits next quiet is =
-    (waits, next, reply_is w (state_after w h) lists v c are (λ access. quiet_words w h v run device some is (quiet access)))
+may_call w h lists v t c world run device are waits next quiet is =
+    (waits, next, reply_is w (state_after w h) lists v c are (λ access. quiet_words w h v world run device is (quiet access)))
+
+-- a call that is served, in a world with a queue or without
+words_call : (w : World) (h : List Event) (lists : List Listed) (v : VkState) (t : ThreadId) (c : Call) (r : Reply) →
+    IsWorld w → IsRunButWords w h → IsRunButWords w (h ++ event.Call t c r ∷ []) → IsDevice w h v → lists ≡ (state_after w h).desk.lists →
+    ((is_good_access (refusal w (state_after w h).desk c) c ≡ true) → IsQuiet (state_after w h)) → IsAhead w h v → IsAhead w (h ++ event.Call t c r ∷ []) (device_by w lists v c)
+words_call w h lists v t c r world run now device are quiet is =
+    elim (cases_lt 0 (length w.queues)) [
+      inl some ↦ ahead_call w h lists v t c r run device some are quiet is
+    | inr none ↦
+        let lanes : length v.lanes ≤ 0 = omega (arith, device.objects.lanes, none) in
+        let m : List (List ℕ) = (state_after w h).memory in
+        let no : Option Hresult = refusal w (state_after w h).desk c in
+        let same : v.words ≡ m = idle_words w h v is (no_queue_idle w h v world run none lanes) in
+        no_queue_event w h (event.Call t c r) v (memory_or (refusal w (desk_of lists) c) (written c v.words) v.words) world now none lanes
+          (ap (λ o. memory_or o (written c v.words) v.words) (refusal_is w (state_after w h).desk lists c are) ∙ ap (λ ws. memory_or no (written c ws) ws) same) ]
+
+words_awake : (w : World) (h : List Event) (v : VkState) (t : ThreadId) → IsWorld w → IsRunButWords w h → IsRunButWords w (h ++ event.Awake t ∷ []) → IsDevice w h v →
+    IsAhead w h v → IsAhead w (h ++ event.Awake t ∷ []) v
+words_awake w h v t world run now device is =
+    elim (cases_lt 0 (length w.queues)) [
+      inl some ↦ ahead_awake w h v t (device_within w h v device some) is
+    | inr none ↦
+        let lanes : length v.lanes ≤ 0 = omega (arith, device.objects.lanes, none) in
+        no_queue_event w h (event.Awake t) v v.words world now none lanes (idle_words w h v is (no_queue_idle w h v world run none lanes)) ]
 
 -- the start
 pub whole_first : (w : World) → IsWorld w → IsWhole w [] (after_submit (vulkan.first_state (plan_of_world w)) (startup w))
 whole_first w world = record { run = λ _. tt; words = λ _. ahead_first w world }
 
--- a call that is served
+-- a call that is served, with the reply by the device's words
 pub whole_call : (w : World) (h : List Event) (lists : List Listed) (v : VkState) (t : ThreadId) (c : Call) →
-    IsRunButWords w h → IsDevice w h v → 0 < length w.queues → lists ≡ (state_after w h).desk.lists →
+    IsWorld w → IsRunButWords w h → IsDevice w h v → lists ≡ (state_after w h).desk.lists →
     (place_of (state_after w h).desk t.0).waits ≡ None → next_call w (state_after w h).desk t.0 ≡ Some c →
     IsWhole w h v → IsWhole w (h ++ event.Call t c (reply_by w lists v c) ∷ []) (device_by w lists v c)
-whole_call w h lists v t c run device some are waits next is =
+whole_call w h lists v t c world run device are waits next is =
     let r : Reply = reply_by w lists v c in
     let e : Event = event.Call t c r in
+    let now : IsRunButWords w (h ++ e ∷ []) =
+      run_append w h e run (waits, next, replies_alike w (state_after w h) lists v c are (same_sizes w h v world device.objects)) in
     record {
       run = λ quiet. plays_append SameReply w (first_state w) h e (is.run (quiet_front w h e quiet))
-        (may_call w h lists v t c run device some are waits next (quiet_last w h e quiet) (is.words (quiet_front w h e quiet)));
-      words = λ quiet. ahead_call w h lists v t c r run device some are (quiet_last w h e quiet) (is.words (quiet_front w h e quiet));
+        (may_call w h lists v t c world run device are waits next (quiet_last w h e quiet) (is.words (quiet_front w h e quiet)));
+      words = λ quiet. words_call w h lists v t c r world run now device are (quiet_last w h e quiet) (is.words (quiet_front w h e quiet));
     }
 
 -- a thread that wakes
-pub whole_awake : (w : World) (h : List Event) (v : VkState) (t : ThreadId) → IsDevice w h v → 0 < length w.queues →
+pub whole_awake : (w : World) (h : List Event) (v : VkState) (t : ThreadId) → IsWorld w → IsRunButWords w h → IsDevice w h v →
     May SameButWords w (state_after w h) (event.Awake t) → IsWhole w h v → IsWhole w (h ++ event.Awake t ∷ []) v
-whole_awake w h v t device some may is =
+whole_awake w h v t world run device may is =
     let e : Event = event.Awake t in
     record {
       run = λ quiet. plays_append SameReply w (first_state w) h e (is.run (quiet_front w h e quiet)) may;
-      words = λ quiet. ahead_awake w h v t (device_within w h v device some) (is.words (quiet_front w h e quiet));
+      words = λ quiet. words_awake w h v t world run (run_append w h e run may) device (is.words (quiet_front w h e quiet));
     }
 
 -- the submission of the next operation
@@ -147,11 +176,11 @@ step_goes_on w h (Bumped q n) now = by_number (n == 0) now
       (λ quiet. quiet_front w h e quiet, λ run. plays_append SameReply w (first_state w) h e run (plays_last SameButWords w (first_state w) h e now))
 
 -- the first step of the device
-pub whole_step : (w : World) (h : List Event) (v : VkState) (s : Stepped) → IsWorld w → IsRunButWords w h → IsDevice w h v → 0 < length w.queues →
+pub whole_step : (w : World) (h : List Event) (v : VkState) (s : Stepped) → IsWorld w → IsRunButWords w h → IsDevice w h v →
     slice_get (enabled_steps v) 0 ≡ Some s → IsRunButWords w (h ++ step_events s) → IsWhole w h v → IsWhole w (h ++ step_events s) (after_step v s)
-whole_step w h v s world run device some at now is =
+whole_step w h v s world run device at now is =
     let goes : (AreHostAccessesQuiet w (h ++ step_events s) → AreHostAccessesQuiet w h) × (IsRun w h → IsRun w (h ++ step_events s)) = step_goes_on w h s now in
     record {
       run = λ quiet. goes.1 (is.run (goes.0 quiet));
-      words = λ quiet. ahead_step w h v s world run device some at (is.words (goes.0 quiet));
+      words = λ quiet. ahead_step w h v s world run device at (is.words (goes.0 quiet));
     }

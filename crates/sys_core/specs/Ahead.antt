@@ -61,21 +61,23 @@ is_access (call.HostWait f v) = false
 is_access (call.Write b offset ws) = true
 is_access (call.Read b offset bytes) = true
 
+-- a call reads or writes a buffer, and is not refused
 abbrev pub is_good_access : Option Hresult → Call → Bool
 is_good_access None c = is_access c
 is_good_access (Some e) c = false
 
--- an event is a call that reads or writes a buffer and is not refused
+-- an event is such a call
 abbrev pub is_host_access : World → State → Event → Bool
 is_host_access w s (event.Call t c r) = is_good_access (refusal w s.desk c) c
 is_host_access w s (event.Awake t) = false
 is_host_access w s (event.Queue q) = false
 
+-- from a state on, each host access comes only where no called operation is incomplete
 abbrev pub AreQuietFrom : World → State → List Event → Type 0
 AreQuietFrom w s [] = Unit {0}
 AreQuietFrom w s (e ∷ h) = ((is_host_access w s e ≡ true) → IsQuiet s) × AreQuietFrom w (after w s e) h
 
--- a call that reads or writes a buffer comes only where no called operation is incomplete
+-- in a history, each host access comes only where no called operation is incomplete
 abbrev pub AreHostAccessesQuiet : World → List Event → Type 0
 AreHostAccessesQuiet w h = AreQuietFrom w (first_state w) h
 
