@@ -184,7 +184,7 @@ one_lane (x ∷ []) one = refl
 one_lane (x ∷ y ∷ lanes) one = absurd (omega (arith, one))
 
 -- where there is one queue, a fact of queue 0 is one of each queue
-at_first : (P : ℕ → Type 0) (q n : ℕ) → q < n → n ≡ 1 → P 0 → P q
+pub at_first : (P : ℕ → Type 0) (q n : ℕ) → q < n → n ≡ 1 → P 0 → P q
 at_first P q n less one here = subst P (let e : 0 ≡ q = omega arith in e) here
 
 no_event : (w : World) (h : List Event) (u : VkState) → IsAhead w h u → IsAhead w (h ++ []) u

@@ -1,5 +1,5 @@
 -- In a world without queues nothing is ever called, and the device's words are the machine's memory.
-use Rattle.std.proofs.Common.{ℕ, ◌≡◌, ◌<◌, ◌≤◌, ◌∙◌, sym, ap, refl, arith, List, [], ◌∷◌, ◌++◌, length, drop, map, Some, None, Option, Bool, true, false, inl, inr, get_or}
+use Rattle.std.proofs.Common.{ℕ, ◌≡◌, ◌<◌, ◌≤◌, ◌∙◌, sym, ap, refl, arith, List, [], ◌∷◌, ◌++◌, length, drop, map, Some, None, Option, Bool, true, inl, inr, get_or}
 use Rattle.std.specs.Prelude.{◌==◌, ◌&&◌, nat_lt, if◌then◌else◌}
 use Rattle.std.specs.List.{list_all}
 use Rattle.std.proofs.lemmas.Bool.{ltb-true, cases_lt}
@@ -22,7 +22,7 @@ use Rattle.d3d_machine.proofs.Operations.{operations_append}
 use Rattle.d3d_machine.proofs.Runs.{run_induction, state_after_append}
 use Rattle.d3d_machine.proofs.Named.{next_is_named, and_left}
 use Rattle.vk_port.specs.declared.lanes.Lane.{Lane}
-use Rattle.vk_port.specs.VkState.{VkState, lane_of, no_lane}
+use Rattle.vk_port.specs.VkState.{VkState, no_lane}
 use Rattle.sys_core.specs.Consistent.{IsDevice}
 use Rattle.sys_core.specs.Steps.{submitted_of}
 use Rattle.sys_core.specs.Ahead.{run_commands, batches_undone, memory_ahead, IsAhead, IsQuiet}

@@ -1,5 +1,5 @@
 -- Where host accesses come only when no called operation is incomplete, the history is a run with its words.
-use Rattle.std.proofs.Common.{ℕ, ◌≡◌, ◌<◌, ◌+◌, ◌∙◌, sym, ap, subst, refl, List, [], ◌∷◌, ◌++◌, length, Some, None, Option, Bool, true, false, append-nil, slice_get, inl, inr, arith, ◌≤◌}
+use Rattle.std.proofs.Common.{ℕ, zero, suc, ◌≡◌, ◌<◌, ◌+◌, ◌∙◌, sym, ap, subst, refl, List, [], ◌∷◌, ◌++◌, length, Some, None, Option, Bool, true, false, append-nil, slice_get, inl, inr, arith, ◌≤◌}
 use Rattle.std.proofs.lemmas.Bool.{cases_lt}
 use Rattle.std.specs.Prelude.{◌==◌, if◌then◌else◌}
 use Rattle.dx_base.specs.declared.ids.ThreadId.{ThreadId}
@@ -13,11 +13,12 @@ use Rattle.d3d_machine.specs.declared.events.Operation.{Operation}
 use Rattle.d3d_machine.specs.declared.events.Event.{Event}
 use Rattle.d3d_machine.specs.declared.events.Event.TheVariants as event
 use Rattle.d3d_machine.specs.World.{IsWorld}
-use Rattle.d3d_machine.specs.State.{State, first_state, place_of, next_call}
+use Rattle.d3d_machine.specs.State.{Desk, State, first_state, place_of, next_call, called_of}
 use Rattle.d3d_machine.specs.Replies.{refusal, reply_or, good_reply, reply_of}
 use Rattle.d3d_machine.specs.Effects.{after, after_all, memory_or, written}
 use Rattle.d3d_machine.specs.Play.{May, Plays, SameReply, SameButWords, IsRun, IsRunButWords, state_after}
-use Rattle.d3d_machine.specs.Operations.{operations}
+use Rattle.d3d_machine.specs.Operations.{operations, counter}
+use Rattle.d3d_machine.proofs.Shape.{run_has_shape}
 use Rattle.d3d_machine.proofs.Runs.{plays_append, run_append}
 use Rattle.vk_port.specs.declared.commands.Batch.{Batch}
 use Rattle.vk_port.specs.declared.steps.Stepped.{Stepped}
@@ -33,9 +34,9 @@ use Rattle.sys_core.specs.Consistent.{IsDevice}
 use Rattle.sys_core.specs.Ahead.{IsAhead, IsQuiet, is_good_access, is_host_access, AreQuietFrom, AreHostAccessesQuiet, IsWhole}
 use Rattle.sys_core.proofs.Calling.{refusal_is, replies_alike}
 use Rattle.sys_core.proofs.Buffers.{same_sizes}
-use Rattle.sys_core.proofs.Ahead.{device_within, ahead_first, ahead_awake, idle_words}
+use Rattle.sys_core.proofs.Ahead.{device_within, called_now, drop_past, ahead_first, ahead_awake, idle_words}
 use Rattle.sys_core.proofs.NoQueue.{no_queue_event, no_queue_idle, quiet_words}
-use Rattle.sys_core.proofs.AheadSteps.{ahead_call, ahead_submit, ahead_step}
+use Rattle.sys_core.proofs.AheadSteps.{ahead_call, ahead_submit, ahead_step, at_first}
 
 quiet_from_append : (w : World) (s : State) (h : List Event) (e : Event) → AreQuietFrom w s h → ((is_host_access w (after_all w s h) e ≡ true) → IsQuiet (after_all w s h)) →
     AreQuietFrom w s (h ++ e ∷ [])
@@ -62,6 +63,25 @@ quiet_front w h e are = quiet_from_front w (first_state w) h e are
 -- the last event, where it is a host access, came where no called operation was incomplete
 pub quiet_last : (w : World) (h : List Event) (e : Event) → AreHostAccessesQuiet w (h ++ e ∷ []) → (is_host_access w (state_after w h) e ≡ true) → IsQuiet (state_after w h)
 quiet_last w h e are = quiet_from_last w (first_state w) h e are
+
+called_past : (d : Desk) (q : ℕ) → length d.called ≤ q → called_of d q ≡ []
+called_past d q past = ap (λ (o : Option (List Operation)). elim o [ None ↦ [] | Some os ↦ os ]) (none_past d.called q past)
+  where
+    none_past : (called : List (List Operation)) (q : ℕ) → length called ≤ q → slice_get called q ≡ None
+    none_past [] q past = refl
+    none_past (os ∷ called) zero past = absurd (omega (arith, past))
+    none_past (os ∷ called) (suc q) past = none_past called q (omega (arith, past))
+
+-- where as many operations completed as were called, no called operation is incomplete
+pub quiet_when : (w : World) (h : List Event) → IsWorld w → IsRunButWords w h → length (operations w h 0) ≤ counter h 0 → IsQuiet (state_after w h)
+quiet_when w h world run all = record {
+  none_called = λ q. elim (cases_lt q (length w.queues)) [
+      inl within ↦
+        let one : length w.queues ≡ 1 = omega (arith, within, world.one_queue) in
+        at_first (λ p. called_of (state_after w h).desk p ≡ []) q (length w.queues) within one
+          (called_now w h run (omega (arith, one)) ∙ drop_past (counter h 0) (operations w h 0) all)
+    | inr past ↦ called_past (state_after w h).desk q (omega (arith, (run_has_shape w h).desk.called, past)) ];
+}
 
 -- the last event of a play could come
 plays_last : (Same : Reply → Reply → Type 0) (w : World) (s : State) (h : List Event) (e : Event) → Plays Same w s (h ++ e ∷ []) → May Same w (after_all w s h) e
@@ -148,12 +168,16 @@ whole_awake w h v t world run device may is =
       words = λ quiet. words_awake w h v t world run (run_append w h e run may) device (is.words (quiet_front w h e quiet));
     }
 
--- the submission of the next operation
-pub whole_submit : (w : World) (h : List Event) (v : VkState) (b : Batch) (o : Operation) → 0 < length v.lanes → slice_get (operations w h 0) (submitted_of v 0) ≡ Some o →
-    b.queue ≡ 0 → b.number ≡ submitted_of v 0 + 1 → b.commands ≡ lowered_commands o → IsWhole w h v → IsWhole w h (after_submit v b)
-whole_submit w h v b o some next queue number cs is = record {
+-- the submission of the next operation of a queue
+pub whole_submit : (w : World) (h : List Event) (v : VkState) (q : ℕ) (b : Batch) (o : Operation) → IsWorld w → IsDevice w h v → q < length w.queues →
+    slice_get (operations w h q) (submitted_of v q) ≡ Some o → b.queue ≡ q → b.number ≡ submitted_of v q + 1 → b.commands ≡ lowered_commands o →
+    IsWhole w h v → IsWhole w h (after_submit v b)
+whole_submit w h v q b o world device within next queue number cs is = record {
   run = is.run;
-  words = λ quiet. ahead_submit w h v b o some next queue number cs (is.words quiet);
+  words = λ quiet.
+    at_first (λ p. slice_get (operations w h p) (submitted_of v p) ≡ Some o → b.queue ≡ p → b.number ≡ submitted_of v p + 1 → IsAhead w h (after_submit v b)) q (length w.queues) within
+      (omega (arith, within, world.one_queue))
+      (λ next queue number. ahead_submit w h v b o (omega (arith, device.objects.lanes, within)) next queue number cs (is.words quiet)) next queue number;
 }
 
 same_history : (w : World) (h : List Event) → (AreHostAccessesQuiet w (h ++ []) → AreHostAccessesQuiet w h) × (IsRun w h → IsRun w (h ++ []))
