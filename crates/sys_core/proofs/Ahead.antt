@@ -1,5 +1,5 @@
 -- The device's words with what it has yet to do stay the machine's memory with what it has yet to complete.
-use Rattle.std.proofs.Common.{ℕ, zero, suc, ◌≡◌, ◌<◌, ◌≤◌, ◌-◌, ◌∙◌, sym, ap, refl, arith, List, [], ◌∷◌, ◌++◌, length, drop, map, replicate, Some, None, Option, true, false, slice_get, get_or, is_some}
+use Rattle.std.proofs.Common.{ℕ, zero, suc, ◌≡◌, ◌<◌, ◌≤◌, ◌-◌, ◌∙◌, sym, ap, refl, arith, List, [], ◌∷◌, ◌++◌, length, drop, map, replicate, Some, None, Option, true, false, slice_get, get_or, is_some, append-nil}
 use Rattle.std.specs.List.{list_all}
 use Rattle.std.proofs.lemmas.List.{drop-append-le, length-drop, length-map}
 use Rattle.dx_base.specs.Lists.{changed_at}
@@ -13,10 +13,10 @@ use Rattle.d3d_machine.specs.declared.events.Event.{Event}
 use Rattle.d3d_machine.specs.declared.events.Event.TheVariants as event
 use Rattle.d3d_machine.specs.World.{IsWorld}
 use Rattle.d3d_machine.specs.State.{State, first_state, zeros, called_of}
-use Rattle.d3d_machine.specs.Effects.{memory_after}
+use Rattle.d3d_machine.specs.Effects.{memory_after, memory_after_operation, head_of, after, after_all, desk_after}
 use Rattle.d3d_machine.specs.Play.{IsRunButWords, SameButWords, state_after}
 use Rattle.d3d_machine.specs.Operations.{operations, counter, completions_by, called_by}
-use Rattle.d3d_machine.proofs.Operations.{operations_append, counter_append, called_after, HoldsRest}
+use Rattle.d3d_machine.proofs.Operations.{operations_append, counter_append, called_after, called_step, HoldsRest}
 use Rattle.d3d_machine.proofs.Runs.{state_after_append}
 use Rattle.vk_port.specs.declared.commands.Batch.{Batch}
 use Rattle.vk_port.specs.declared.commands.VkCommand.{VkCommand}
@@ -78,6 +78,33 @@ called_now w h run some =
     let first : (x : ListType) × (slice_get w.queues 0 ≡ Some x) = item_at w.queues 0 some in
     let holds : HoldsRest (state_after w h).desk 0 (counter h 0) (operations w h 0) = called_after SameButWords w 0 h first.0 first.1 run in
     ap (λ (o : Option (List Operation)). elim o [ None ↦ [] | Some x ↦ x ]) holds.rest
+
+after_both : (w : World) (s : State) (h more : List Event) → after_all w s (h ++ more) ≡ after_all w (after_all w s h) more
+after_both w s [] more = refl
+after_both w s (e ∷ h) more = after_both w (after w s e) h more
+
+-- the completion of the oldest called operation of the first queue
+abbrev pub completion : Event
+completion = event.Queue (record { 0 = 0 })
+
+completed_memory : (w : World) (s : State) (os : List Operation) → slice_get s.desk.called 0 ≡ Some os →
+    (after_all w s (replicate (length os) completion)).memory ≡ memory_ahead os s.memory
+completed_memory w s [] is = refl
+completed_memory w s (o ∷ os) is =
+    let called : slice_get (desk_after w s.desk completion).called 0 ≡ Some os = called_step w s.desk 0 completion (o ∷ os) is ∙ ap (λ ys. Some ys) (append-nil os) in
+    let head : head_of s.desk 0 ≡ Some o = ap (λ (ys : Option (List Operation)). slice_get (elim ys [ None ↦ [] | Some y ↦ y ]) 0) is in
+    completed_memory w (after w s completion) os called ∙ ap (λ y. memory_ahead os (memory_after_operation s.memory y)) head
+
+-- the claim, with the memory after the history and the completion of each called operation that is not complete
+pub ahead_in_completions : (w : World) (h : List Event) (v : VkState) → IsRunButWords w h → 0 < length w.queues → IsAhead w h v →
+    run_commands (batches_undone (lane_of v 0).batches ++ held_commands (drop (submitted_of v 0) (operations w h 0))) v.words
+      ≡ (state_after w (h ++ replicate (length (drop (counter h 0) (operations w h 0))) completion)).memory
+ahead_in_completions w h v run some is =
+    let os : List Operation = drop (counter h 0) (operations w h 0) in
+    let first : (x : ListType) × (slice_get w.queues 0 ≡ Some x) = item_at w.queues 0 some in
+    let holds : HoldsRest (state_after w h).desk 0 (counter h 0) (operations w h 0) = called_after SameButWords w 0 h first.0 first.1 run in
+    ahead_in_commands w h v is ∙ sym (completed_memory w (state_after w h) os holds.rest)
+    ∙ ap (λ (s : State). s.memory) (sym (after_both w (first_state w) h (replicate (length os) completion)))
 
 -- an event that completes nothing, where words and memory change alike
 pub ahead_event : (w : World) (h : List Event) (e : Event) (v : VkState) (words : List (List ℕ)) → IsWithin w h v → completions_by 0 e ≡ 0 →
