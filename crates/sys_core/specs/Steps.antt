@@ -10,6 +10,7 @@ use Rattle.d3d_machine.specs.State.{Waiting, Place, Desk, State, place_of, scrip
 use Rattle.d3d_machine.specs.Replies.{reply_of}
 use Rattle.d3d_machine.specs.Effects.{memory_after}
 use Rattle.d3d_machine.specs.Play.{state_after}
+use Rattle.d3d_machine.specs.declared.events.Operation.{Operation}
 use Rattle.d3d_machine.specs.Operations.{operations}
 use Rattle.vk_port.specs.declared.steps.Stepped.{Stepped}
 use Rattle.vk_port.specs.declared.steps.Stepped.TheVariants as stepped
@@ -17,6 +18,8 @@ use Rattle.vk_port.specs.declared.commands.Batch.{Batch}
 use Rattle.vk_port.specs.Journal.{next_number}
 use Rattle.vk_port.specs.Offers.{steps_offered}
 use Rattle.vk_port.specs.VkState.{VkState}
+use Rattle.vk_port.specs.After.{after_submit}
+use Rattle.sys_core.specs.Lowering.{lowered}
 
 -- a thread's step is enabled where it does not wait and its script has a next call, or its wait is met
 abbrev pub is_ready_place : List Call → Place → Bool
@@ -75,3 +78,16 @@ step_events (stepped.Passed q n) = []
 step_events (stepped.Ran q n k) = []
 step_events (stepped.Bumped q n) = if n == 0 then [] else event.Queue (record { 0 = q }) ∷ []
 step_events stepped.Free = []
+
+-- the batch that a worker's step submits: that of the queue's next operation
+abbrev pub next_batch : World → List Event → VkState → ℕ → Option Operation → List Batch
+next_batch w h v q None = []
+next_batch w h v q (Some o) = lowered w h v.journal q (submitted_of v q + 1) o ∷ []
+
+abbrev pub submitted_batches : World → List Event → VkState → ℕ → List Batch
+submitted_batches w h v q = next_batch w h v q (slice_get (operations w h q) (submitted_of v q))
+
+-- the device after batches were submitted
+abbrev pub after_submits : VkState → List Batch → VkState
+after_submits v [] = v
+after_submits v (b ∷ bs) = after_submits (after_submit v b) bs

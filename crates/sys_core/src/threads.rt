@@ -54,3 +54,41 @@ fn wake(seats: &mut Seq<Seat>, thread: usize)
 {
     seats.at_mut(thread).waits = None;
 }
+
+/// A thread's step: it wakes where it waits, and otherwise makes its next call. Refused, all stays but room.
+pub(crate) fn thread_step<D: VkDevice>(alloc: Global, world: &World, history: &mut Room<Event>, parts: &mut Parts, device: &mut D, thread: ThreadId) -> Result<(), SysFault>
+    requires keeps { Keeps D.state D.plan_of world.now history.old.items parts.old device.old }
+    requires ready { is_ready_thread world.now history.old.items thread.0 ≡ true }
+    ensures keeps { Keeps D.state D.plan_of world.now history.new.items parts.new device.new }
+    ensures event { OnOk result (history.new.items ≡ history.old.items ++ thread_event world.now history.old.items (D.state device.old) thread.0 ∷ []) }
+    ensures state { OnOk result (D.state device.new ≡ after_event world.now history.old.items (D.state device.old) (thread_event world.now history.old.items (D.state device.old) thread.0)) }
+    ensures same { OnErr result (history.new.items ≡ history.old.items) }
+    ensures same_state { OnErr result (D.state device.new ≡ D.state device.old) }
+    ensures rest { D.rest_of device.new ≡ D.rest_of device.old }
+    ensures faults { D.faults device.old ≤ D.faults device.new }
+    ensures cause { HasCause (D.faults device.old) (D.faults device.new) result }
+{
+    history.reserve()?;
+    let at = thread.0 as usize;
+    let seat = *parts.seats.at(at);
+    match seat.waits {
+        Some(_) => {
+            wake(&mut parts.seats, at);
+            history.push_reserved(Event::Awake(thread));
+            Ok(())
+        }
+        None => {
+            let script = world.scripts.at(at);
+            let _count = script.len();
+            let call = script.at(seat.made).copied(alloc)?;
+            let reply = serve(alloc, world, parts, device, &call)?;
+            seat_call(&mut parts.seats, &parts.fences, at, seat, &call);
+            history.push_reserved(Event::Call {
+                thread,
+                call,
+                reply,
+            });
+            Ok(())
+        }
+    }
+}
