@@ -74,10 +74,10 @@ abbrev pub is_small_resource : Option Resource → Bool
 is_small_resource None = true
 is_small_resource (Some (Buffer h n)) = nat_le n 262144
 
--- a valid world: its calls name objects of it, its objects keep the limits, and each resource lives
+-- a valid world: its calls name objects of it, its objects keep the limits, it has one queue, and each resource lives
 pub record IsWorld (w : World) : Type 0 where
   pub named : list_all (λ script. list_all (is_named w) script) w.scripts ≡ true
-  pub one_queue : length w.queues ≤ 1
+  pub one_queue : length w.queues ≡ 1
   pub threads : length w.scripts ≤ 16
   pub resources : length w.resources ≤ 4096
   pub sizes : list_all is_small_resource w.resources ≡ true

@@ -27,11 +27,20 @@ use Rattle.vk_port.specs.declared.lanes.Lane.{Lane}
 use Rattle.vk_port.specs.declared.lanes.Running.{Running}
 use Rattle.vk_port.specs.declared.steps.Stepped.{Stepped}
 use Rattle.vk_port.specs.declared.steps.Stepped.TheVariants.{Passed, Ran, Bumped, Free}
-use Rattle.vk_port.specs.Journal.{of_queue, first_number, are_numbered}
-use Rattle.vk_port.specs.Meaning.{IsBump}
+use Rattle.vk_port.specs.Journal.{next_number, of_queue, first_number, are_numbered}
+use Rattle.vk_port.specs.Meaning.{IsBump, IsEnabled}
+use Rattle.vk_port.proofs.Valid.{step_valid}
+use Rattle.vk_port.proofs.Lists.{item_at, get_of_take}
+use Rattle.d3d_machine.proofs.Runs.{run_append, state_after_append}
+use Rattle.dx_base.specs.declared.kinds.ListType.{ListType}
+use Rattle.sys_core.proofs.Seating.{seats_complete, applied_append}
+use Rattle.sys_core.proofs.Standing.{stands_complete}
+use Rattle.sys_core.proofs.Holding.{held_complete}
+use Rattle.d3d_machine.proofs.Operations.{counter_append}
+use Rattle.vk_port.proofs.Matching.{step_matches}
 use Rattle.vk_port.specs.Valid.{IsValid, IsLane, Matches, batch_of}
 use Rattle.vk_port.specs.VkState.{VkState, lane_of, no_lane, counter_of}
-use Rattle.vk_port.specs.After.{after_step, lane_after_bump, lane_after_pass, lane_after_run, after_sets, sets_of}
+use Rattle.vk_port.specs.After.{with_done, place_of, after_step, lane_after_bump, lane_after_pass, lane_after_run, after_sets, sets_of}
 use Rattle.sys_core.specs.declared.parts.Signalled.{Signalled}
 use Rattle.sys_core.specs.Lowering.{startup, plan_of_world}
 use Rattle.d3d_machine.specs.Fences.{update_of_operation, applied_updates}
@@ -39,7 +48,8 @@ use Rattle.std.proofs.lemmas.Bool.{eq-eqb}
 use Rattle.sys_core.specs.Parts.{Queued, with_number, signal_at, without, without_first, updated_by}
 use Rattle.sys_core.specs.Stands.{Stands, StandsAt}
 use Rattle.sys_core.specs.Steps.{submitted_of}
-use Rattle.sys_core.specs.Consistent.{IsDevice, finished_of, signals_of}
+use Rattle.sys_core.specs.declared.parts.Seat.{Seat}
+use Rattle.sys_core.specs.Consistent.{IsHeld, AreHeld, AreSeats, AreFences, IsConsistent, IsDevice, finished_of, signals_of}
 use Rattle.sys_core.proofs.Standing.{submitted_is}
 use Rattle.sys_core.proofs.Holding.{drop_here, slice_get_drop}
 use Rattle.sys_core.proofs.Lowered.{IsBatch, lowered_member, of_queue_member, number_at}
@@ -54,6 +64,7 @@ pub record IsFirst (w : World) (v : VkState) (n : ℕ) (b : Batch) : Type 0 wher
   pub finished : finished_of v 0 ≡ n
   pub lane_some : 0 < length (lane_of v 0).batches
   pub lane_within : 0 < length v.lanes
+  pub few : length (lane_of v 0).batches ≤ length (of_queue 0 v.journal)
   pub at : slice_get (of_queue 0 v.journal) n ≡ Some b
   pub number : b.number ≡ n
   pub sets : sets_of (lane_of v 0) ≡ b.sets
@@ -77,6 +88,7 @@ first_is w v n valid bump =
       finished = finished ∙ n_is;
       lane_some = some;
       lane_within = slice_get_within v.lanes 0 bump.lane bump.there;
+      few = omega (arith, ap length lane.are_last, length-drop lane.finished j, mapped);
       at = ap (slice_get j) (sym n_is) ∙ here;
       number = bump.number;
       sets = ap (λ (o : Option Running). elim o [ None ↦ [] | Some first ↦ first.batch.sets ]) front;
@@ -88,6 +100,7 @@ pub record IsEnding (w : World) (h : List Event) (v : VkState) (n : ℕ) (o : Op
   pub called : slice_get (operations w h 0) (n - 1) ≡ Some o
   pub sets : sets_of (lane_of v 0) ≡ (0, n) ∷ []
   pub less : n - 1 < submitted_of v 0
+  pub some : 0 < n
 
 ending_is : (w : World) (h : List Event) (v : VkState) (n : ℕ) (b : Batch) → IsDevice w h v → 0 < length w.queues → IsFirst w v n b → 0 < n → (o : Operation) × IsEnding w h v n o
 ending_is w h v n b device within first some =
@@ -103,6 +116,7 @@ ending_is w h v n b device within first some =
       called = ap (λ k. slice_get (operations w h 0) (k - 1)) (sym first.number) ∙ ap (λ q. slice_get (operations w h q) (b.number - 1)) (sym member.2) ∙ found.1.called;
       sets = first.sets ∙ found.1.sets ∙ ap (λ q. (q, b.number) ∷ []) member.2 ∙ ap (λ k. (0, k) ∷ []) first.number;
       less = omega (arith, count, slice_get_within (of_queue 0 stands.rest) (n - 1) b behind);
+      some = some;
     })
 
 -- signals among operations are numbered from the first operation's number on
@@ -158,3 +172,210 @@ updated_is n (Signal g v) fences f us is =
 updated_length : (s : Option Signalled) (fences : List (List ℕ)) → length (updated_by s fences) ≡ length fences
 updated_length None fences = refl
 updated_length (Some s) fences = length_changed (λ us. us ++ s.value ∷ []) fences s.fence.0
+
+-- the steps that end no batch: the batches of each lane are as many, the journal and the timelines stay
+same_batches : (v u : VkState) (q : ℕ) → u.journal ≡ v.journal → ((p : ℕ) → length (lane_of u p).batches ≡ length (lane_of v p).batches) → finished_of u q ≡ finished_of v q
+same_batches v u q journal lanes = omega (arith, ap (λ j. length (of_queue q j)) journal, lanes q)
+
+lane_length : (f : Lane → Lane) (q p : ℕ) (v : VkState) → ((l : Lane) → length (f l).batches ≡ length l.batches) →
+    length (get_or (changed_at f q v.lanes) p no_lane).batches ≡ length (lane_of v p).batches
+lane_length f q p v keeps = by_lanes q p v.lanes
+  where
+    by_lanes : (q p : ℕ) (ls : List Lane) → length (get_or (changed_at f q ls) p no_lane).batches ≡ length (get_or ls p no_lane).batches
+    by_lanes q p [] = refl
+    by_lanes zero zero (l ∷ ls) = keeps l
+    by_lanes zero (suc p) (l ∷ ls) = refl
+    by_lanes (suc q) zero (l ∷ ls) = refl
+    by_lanes (suc q) (suc p) (l ∷ ls) = by_lanes q p ls
+
+-- the device after a step that ends no operation's batch
+device_goes : (w : World) (h : List Event) (v u : VkState) → IsDevice w h v → IsValid u → Matches (plan_of_world w) u → u.journal ≡ v.journal →
+    ((q : ℕ) → q < length w.queues → counter_of u q ≡ counter_of v q) → ((q : ℕ) → q < length w.queues → (first_number q + finished_of u q) - 1 ≡ (first_number q + finished_of v q) - 1) →
+    IsDevice w h u
+device_goes w h v u is valid objects journal counters finished = record {
+  valid = valid;
+  objects = objects;
+  stands = record {
+    rest = is.stands.rest;
+    begins = journal ∙ is.stands.begins;
+    lowered_rest = is.stands.lowered_rest;
+    queues = λ q within. let at : StandsAt w h is.stands.rest v q = is.stands.queues q within in
+      record { numbered = at.numbered; of_called = at.of_called; counter_is = counters q within ∙ at.counter_is; done = at.done };
+  };
+  named = ap (list_all (λ b. nat_lt b.queue (length w.queues))) journal ∙ is.named;
+  finished = λ q within. is.finished q within ∙ sym (finished q within);
+}
+
+-- the held operations look at the device's journal alone
+held_goes : (w : World) (h : List Event) (v u : VkState) (held : List Queued) → u.journal ≡ v.journal → AreHeld w h v held → AreHeld w h u held
+held_goes w h v u held journal are = record {
+  count = are.count;
+  each = λ q x at. let is : IsHeld w h v q x = are.each q x at in
+    record { submitted_is = is.submitted_is ∙ ap (λ j. next_number q j - 1) (sym journal); within = is.within; rest = is.rest; last_is = is.last_is; pending = is.pending };
+}
+
+-- a step that ends no operation's batch
+consistent_goes : (w : World) (h : List Event) (lists : List Listed) (seats : List Seat) (fences : List (List ℕ)) (held : List Queued) (v u : VkState) →
+    IsConsistent w h lists seats fences held v → u.journal ≡ v.journal → IsDevice w h u → IsConsistent w h lists seats fences held u
+consistent_goes w h lists seats fences held v u is journal device = record {
+  world = is.world;
+  run = is.run;
+  lists_are = is.lists_are;
+  seats_are = is.seats_are;
+  fences_are = is.fences_are;
+  held_are = held_goes w h v u held journal is.held_are;
+  device = device;
+}
+
+pub consistent_pass : (w : World) (h : List Event) (lists : List Listed) (seats : List Seat) (fences : List (List ℕ)) (held : List Queued) (v : VkState) (q n : ℕ) →
+    IsConsistent w h lists seats fences held v → IsEnabled v (Passed q n) → IsConsistent w h lists seats fences held (after_step v (Passed q n))
+consistent_pass w h lists seats fences held v q n is enabled =
+    let u : VkState = after_step v (Passed q n) in
+    consistent_goes w h lists seats fences held v u is refl
+      (device_goes w h v u is.device (step_valid v (Passed q n) enabled is.device.valid) (step_matches (plan_of_world w) v (Passed q n) is.device.objects) refl (λ p within. refl)
+        (λ p within. ap (λ k. (first_number p + k) - 1) (same_batches v u p refl (λ i. lane_length lane_after_pass q i v (λ l. refl)))))
+
+pub consistent_run : (w : World) (h : List Event) (lists : List Listed) (seats : List Seat) (fences : List (List ℕ)) (held : List Queued) (v : VkState) (q n k : ℕ) →
+    IsConsistent w h lists seats fences held v → IsEnabled v (Ran q n k) → IsConsistent w h lists seats fences held (after_step v (Ran q n k))
+consistent_run w h lists seats fences held v q n k is enabled =
+    let u : VkState = after_step v (Ran q n k) in
+    consistent_goes w h lists seats fences held v u is refl
+      (device_goes w h v u is.device (step_valid v (Ran q n k) enabled is.device.valid) (step_matches (plan_of_world w) v (Ran q n k) is.device.objects) refl (λ p within. refl)
+        (λ p within. ap (λ i. (first_number p + i) - 1) (same_batches v u p refl (λ i. lane_length (lane_after_run n k) q i v (λ l. length_changed (with_done k) l.batches (place_of n l.batches))))))
+
+-- the one queue has one more finished batch
+finished_bump : (w : World) (v : VkState) (n : ℕ) (b : Batch) → IsFirst w v n b → finished_of (after_step v (Bumped 0 n)) 0 ≡ n + 1
+finished_bump w v n b first =
+    let lane : lane_of (after_step v (Bumped 0 n)) 0 ≡ lane_after_bump (lane_of v 0) = get_or_changed lane_after_bump v.lanes 0 no_lane first.lane_within in
+    let fewer : length (lane_of (after_step v (Bumped 0 n)) 0).batches ≡ length (lane_of v 0).batches - 1 =
+      ap (λ (l : Lane). length l.batches) lane ∙ length-drop 1 (lane_of v 0).batches in
+    omega (arith, fewer, first.finished, first.lane_some, first.few, slice_get_within (of_queue 0 v.journal) n b first.at)
+
+set_there : (i n : ℕ) (ts : List ℕ) → i < length ts → get_or (set ts i n) i 0 ≡ n
+set_there i n [] within = absurd (omega arith)
+set_there zero n (t ∷ ts) within = refl
+set_there (suc i) n (t ∷ ts) within = set_there i n ts (omega arith)
+
+set_elsewhere : (i j n : ℕ) (ts : List ℕ) → i ≢ j → get_or (set ts i n) j 0 ≡ get_or ts j 0
+set_elsewhere i j n [] other = refl
+set_elsewhere zero zero n (t ∷ ts) other = absurd (other refl)
+set_elsewhere zero (suc j) n (t ∷ ts) other = refl
+set_elsewhere (suc i) zero n (t ∷ ts) other = refl
+set_elsewhere (suc i) (suc j) n (t ∷ ts) other = set_elsewhere i j n ts (λ e. other (ap suc e))
+
+-- the end of the start-up batch
+pub consistent_start : (w : World) (h : List Event) (lists : List Listed) (seats : List Seat) (fences : List (List ℕ)) (held : List Queued) (v : VkState) →
+    IsConsistent w h lists seats fences held v → 0 < length w.queues → IsEnabled v (Bumped 0 0) → IsConsistent w h lists seats fences held (after_step v (Bumped 0 0))
+consistent_start w h lists seats fences held v is within enabled =
+    let u : VkState = after_step v (Bumped 0 0) in
+    let found : (b : Batch) × IsFirst w v 0 b = first_is w v 0 is.device.valid enabled in
+    let one : length w.queues ≡ 1 = omega (arith, is.world.one_queue) in
+    let b_is : startup w ≡ found.0 =
+      let e : Some (startup w) ≡ Some found.0 = ap (λ (j : List Batch). slice_get (of_queue 0 j) 0) (sym is.device.stands.begins) ∙ found.1.at in grind arith in
+    let sets : sets_of (lane_of v 0) ≡ (1, 1) ∷ [] = found.1.sets ∙ ap (λ (x : Batch). x.sets) (sym b_is) ∙ ap (λ k. (k, 1) ∷ []) one in
+    let counters : (q : ℕ) → q < length w.queues → counter_of u q ≡ counter_of v q =
+      λ q inside. ap (λ ss. get_or (after_sets ss v.timelines) q 0) sets ∙ set_elsewhere 1 q 1 v.timelines (λ e. omega (arith, inside, one, e)) in
+    consistent_goes w h lists seats fences held v u is refl
+      (device_goes w h v u is.device (step_valid v (Bumped 0 0) enabled is.device.valid) (step_matches (plan_of_world w) v (Bumped 0 0) is.device.objects) refl counters
+        (λ q inside. subst (λ k. (first_number k + finished_of u k) - 1 ≡ (first_number k + finished_of v k) - 1) (let zeroth : 0 ≡ q = omega (arith, inside, one) in zeroth)
+          (omega (arith, finished_bump w v 0 found.0 found.1, found.1.finished))))
+
+operation_lists : (s : State) (o : Option Operation) (q : ℕ) → (desk_after_operation (dropped s.desk q) o).lists ≡ s.desk.lists
+operation_lists s None q = refl
+operation_lists s (Some (Execute cs)) q = refl
+operation_lists s (Some (Signal f v)) q = refl
+
+-- the first submitted signal, by the operation that ends
+signal_of_head : (w : World) (h : List Event) (v : VkState) (n : ℕ) (x : Queued) (o : Operation) → IsHeld w h v 0 x → IsEnding w h v n o →
+    slice_get (operations w h 0) (counter h 0) ≡ Some o → counter h 0 < x.submitted → signal_at n x ≡ signal_by n o
+signal_of_head w h v n x o holds ending called less =
+    let os : List Operation = operations w h 0 in
+    let c : ℕ = counter h 0 in
+    let first : slice_get (take x.submitted os) c ≡ Some o = get_of_take x.submitted os c less ∙ called in
+    signal_found n o (drop (c + 1) (take x.submitted os)) x
+      (holds.pending ∙ ap (signals_of (c + 1)) (drop_here c (take x.submitted os) o first)
+        ∙ ap (λ k. signals_of k (o ∷ drop (c + 1) (take x.submitted os))) (omega (arith, ending.counter_is, ending.some)))
+
+fences_end : (w : World) (h : List Event) (q : QueueId) (n : ℕ) (o : Operation) (fences : List (List ℕ)) → AreFences w h fences → head_of (state_after w h).desk q.0 ≡ Some o →
+    AreFences w (h ++ event.Queue q ∷ []) (updated_by (signal_by n o) fences)
+fences_end w h q n o fences are head = record {
+  count = updated_length (signal_by n o) fences ∙ are.count;
+  each = λ f within. updated_is n o fences f (applied_updates w h f) (are.each f within)
+    ∙ ap (λ us. Some us) (sym (applied_append w h (event.Queue q) f ∙ ap (λ y. applied_updates w h f ++ update_of_operation f y) head));
+}
+
+held_end : (w : World) (h : List Event) (v u : VkState) (q : QueueId) (n : ℕ) (o : Operation) (x : Queued) (held : List Queued) → AreHeld w h v held → slice_get held 0 ≡ Some x →
+    length w.queues ≡ 1 → completions_by 0 (event.Queue q) ≡ 1 → counter h 0 < x.submitted → slice_get (operations w h 0) (counter h 0) ≡ Some o →
+    AreHeld w (h ++ event.Queue q ∷ []) (after_step v (Bumped 0 n)) (changed_at (without (signal_by n o)) 0 held)
+held_end w h v u q n o x held are at one one_more less called =
+    let s : Option Signalled = signal_by n o in
+    record {
+      count = length_changed (without s) held 0 ∙ are.count;
+      each = λ p y there.
+        let zeroth : p ≡ 0 = omega (arith, slice_get_within (changed_at (without s) 0 held) p y there, length_changed (without s) held 0, are.count, one) in
+        let here : slice_get (changed_at (without s) 0 held) 0 ≡ Some y = ap (slice_get (changed_at (without s) 0 held)) (sym zeroth) ∙ there in
+        let is_y : y ≡ without s x = let e : Some (without s x) ≡ Some y = ap (option_map (without s)) (sym at) ∙ sym (get_changed (without s) held 0) ∙ here in grind arith in
+        let keeps : ((without s x).submitted ≡ x.submitted) × ((without s x).last_signal ≡ x.last_signal) × ((without s x).operations ≡ x.operations) = without_keeps s x in
+        subst (λ k. IsHeld w (h ++ event.Queue q ∷ []) (after_step v (Bumped 0 n)) k y) (sym zeroth)
+          (held_complete w h (event.Queue q) v (after_step v (Bumped 0 n)) 0 x y o (are.each 0 x at) one_more refl less called refl
+            (ap (λ (z : Queued). z.submitted) is_y ∙ keeps.0) (ap (λ (z : Queued). z.last_signal) is_y ∙ keeps.1) (ap (λ (z : Queued). z.operations) is_y ∙ keeps.2)
+            (ap (λ (z : Queued). z.signals) is_y ∙ without_is n o x));
+    }
+
+device_end : (w : World) (h : List Event) (v : VkState) (q : QueueId) (n : ℕ) (b : Batch) (o : Operation) → IsDevice w h v → length w.queues ≡ 1 → completions_by 0 (event.Queue q) ≡ 1 →
+    IsFirst w v n b → IsEnding w h v n o → IsValid (after_step v (Bumped 0 n)) → IsDevice w (h ++ event.Queue q ∷ []) (after_step v (Bumped 0 n))
+device_end w h v q n b o is one one_more first ending valid =
+    let u : VkState = after_step v (Bumped 0 n) in
+    let e : Event = event.Queue q in
+    let timelines : 0 < length v.timelines = omega (arith, is.objects.timelines, one) in
+    let now : counter_of u 0 ≡ n = ap (λ ss. get_or (after_sets ss v.timelines) 0 0) ending.sets ∙ set_there 0 n v.timelines timelines in
+    let within : 0 < length w.queues = omega (arith, one) in
+    let before : counter_of v 0 ≡ n - 1 = (is.stands.queues 0 within).counter_is ∙ ending.counter_is in
+    record {
+      valid = valid;
+      objects = step_matches (plan_of_world w) v (Bumped 0 n) is.objects;
+      stands = stands_complete w h e v u is.stands refl
+        (λ p inside. subst (λ k. counter_of u k ≡ counter_of v k + completions_by k e) (let zeroth : 0 ≡ p = omega (arith, inside, one) in zeroth)
+          (omega (arith, now, before, one_more, ending.some)))
+        (λ p rest begins inside. subst (λ k. counter_of v k + completions_by k e ≤ length (of_queue k rest)) (let zeroth : 0 ≡ p = omega (arith, inside, one) in zeroth)
+          (let same : is.stands.rest ≡ rest = let both : startup w ∷ is.stands.rest ≡ startup w ∷ rest = sym is.stands.begins ∙ begins in grind arith in
+           let count : submitted_of v 0 ≡ length (of_queue 0 is.stands.rest) = submitted_is w v is.stands.rest 0 is.stands.begins (is.stands.queues 0 within).numbered in
+           omega (arith, before, one_more, ending.less, count, ap (λ r. length (of_queue 0 r)) same, ending.some)));
+      named = is.named;
+      finished = λ p inside. subst (λ k. counter (h ++ e ∷ []) k ≡ (first_number k + finished_of u k) - 1) (let zeroth : 0 ≡ p = omega (arith, inside, one) in zeroth)
+        (omega (arith, counter_append 0 h e, one_more, ending.counter_is, ending.some, finished_bump w v n b first));
+    }
+
+-- the end of an operation's batch
+pub consistent_end : (w : World) (h : List Event) (lists : List Listed) (seats : List Seat) (fences : List (List ℕ)) (held : List Queued) (v : VkState) (q : QueueId) (n : ℕ) (x : Queued) →
+    IsConsistent w h lists seats fences held v → q.0 ≡ 0 → 0 < length w.queues → 0 < n → IsEnabled v (Bumped 0 n) → slice_get held 0 ≡ Some x →
+    IsConsistent w (h ++ event.Queue q ∷ []) lists seats (updated_by (signal_at n x) fences) (changed_at (without (signal_at n x)) 0 held) (after_step v (Bumped 0 n))
+consistent_end w h lists seats fences held v q n x is zeroth within some enabled at =
+    let u : VkState = after_step v (Bumped 0 n) in
+    let e : Event = event.Queue q in
+    let one : length w.queues ≡ 1 = omega (arith, is.world.one_queue) in
+    let first : (b : Batch) × IsFirst w v n b = first_is w v n is.device.valid enabled in
+    let ending : (o : Operation) × IsEnding w h v n o = ending_is w h v n first.0 is.device within first.1 some in
+    let o : Operation = ending.0 in
+    let holds : IsHeld w h v 0 x = is.held_are.each 0 x at in
+    let os : List Operation = operations w h 0 in
+    let c : ℕ = counter h 0 in
+    let called : slice_get os c ≡ Some o = ap (slice_get os) ending.1.counter_is ∙ ending.1.called in
+    let less : c < x.submitted = omega (arith, ending.1.counter_is, ending.1.less, holds.submitted_is) in
+    let one_more : completions_by 0 e ≡ 1 = ap (λ k. if (k == 0) then 1 else 0) zeroth in
+    let queue : (t : ListType) × (slice_get w.queues 0 ≡ Some t) = item_at w.queues 0 within in
+    let rest : HoldsRest (state_after w h).desk 0 c os = called_after SameButWords w 0 h queue.0 queue.1 is.run in
+    let head : slice_get (drop c os) 0 ≡ Some o = slice_get_drop c os ∙ called in
+    let called_is : called_of (state_after w h).desk q.0 ≡ drop c os =
+      ap (λ k. called_of (state_after w h).desk k) zeroth ∙ ap (λ (y : Option (List Operation)). elim y [ None ↦ [] | Some z ↦ z ]) rest.rest in
+    let head_is : head_of (state_after w h).desk q.0 ≡ Some o = ap (λ ys. slice_get ys 0) called_is ∙ head in
+    let signal : signal_at n x ≡ signal_by n o = signal_of_head w h v n x o holds ending.1 called less in
+    record {
+      world = is.world;
+      run = run_append w h e is.run (ap (λ ys. nat_lt 0 (length ys)) called_is ∙ lt-ltb 0 (length (drop c os)) (slice_get_within (drop c os) 0 o head));
+      lists_are = is.lists_are ∙ sym (operation_lists (state_after w h) (head_of (state_after w h).desk q.0) q.0) ∙ ap (λ (s : State). s.desk.lists) (sym (state_after_append w h e));
+      seats_are = seats_complete w h q seats is.seats_are;
+      fences_are = subst (λ k. AreFences w (h ++ e ∷ []) (updated_by k fences)) (sym signal) (fences_end w h q n o fences is.fences_are head_is);
+      held_are = subst (λ k. AreHeld w (h ++ e ∷ []) u (changed_at (without k) 0 held)) (sym signal) (held_end w h v u q n o x held is.held_are at one one_more less called);
+      device = device_end w h v q n first.0 o is.device one one_more first.1 ending.1 (step_valid v (Bumped 0 n) enabled is.device.valid);
+    }

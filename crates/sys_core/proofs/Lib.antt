@@ -11,3 +11,5 @@ pub mod Fitting
 pub mod Working
 pub mod Bumping
 pub mod Work
+pub mod Opening
+pub mod Keeping

@@ -7,3 +7,4 @@ pub mod Consistent
 pub mod FaultOf
 pub mod Serving
 pub mod Work
+pub mod Keeps

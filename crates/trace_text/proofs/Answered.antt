@@ -1,9 +1,9 @@
 -- The lines of answered calls, one more event at a time.
-use Rattle.std.proofs.Common.{add-zero, add-one, ◌<◌, drop, drop-cons, get_or, flat_map, ℕ, suc, ◌≡◌, ◌+◌, ◌≤◌, List, [], ◌∷◌, ◌++◌, length, refl, arith, rules, append_assoc, add_assoc, ◌∙◌, ap, sym}
+use Rattle.std.proofs.Common.{add-zero, add-one, ◌<◌, drop, drop-cons, get_or, flat_map, ℕ, ◌≡◌, ◌+◌, List, [], ◌∷◌, ◌++◌, length, refl, arith, append_assoc}
 use Rattle.std.proofs.lemmas.Grind.{flat_map-append}
 use Rattle.d3d_machine.specs.declared.calls.Reply.{Reply}
 use Rattle.d3d_machine.specs.declared.events.Event.{Event}
-use Rattle.trace_text.specs.Text.{line_text, reply_lines, answer_lines, replies_by, replies_in}
+use Rattle.trace_text.specs.Text.{line_text, answer_lines, replies_by, replies_in}
 
 -- the lines of answered calls, then those of later ones
 pub answers_append : (name : List ℕ) (k : ℕ) (rs ss : List Reply) →

@@ -1,7 +1,6 @@
 -- The lines that are to stand first.
-use Rattle.std.proofs.Common.{ℕ, zero, suc, ◌≡◌, ◌<◌, ◌≤◌, ◌^◌, Bool, true, false, List, [], ◌∷◌, length, map, drop, Option, Some, None, Bor, nat_lt, arith, refl, sym}
+use Rattle.std.proofs.Common.{ℕ, zero, suc, ◌≡◌, ◌<◌, ◌≤◌, false, List, [], ◌∷◌, length, map, drop, Option, None, Bor, nat_lt, arith, refl}
 use Rattle.std.proofs.lemmas.Bool.Decides.{nat_tests}
-use Rattle.trace_text.specs.declared.round.Round.{Round}
 use Rattle.trace_text.specs.Form.{behind, declarations, lines_of, rounds_behind, rounds_in}
 
 -- no lines are left, and one is to come

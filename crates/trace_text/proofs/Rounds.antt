@@ -1,9 +1,9 @@
 -- Rounds, one more at a time.
-use Rattle.std.proofs.Common.{ℕ, zero, suc, ◌≡◌, ◌-◌, ◌<◌, ◌++◌, Bool, true, false, List, [], ◌∷◌, Option, Some, None, arith, refl, append_assoc, sub-one}
+use Rattle.std.proofs.Common.{ℕ, zero, suc, ◌≡◌, ◌-◌, ◌<◌, ◌++◌, true, false, List, [], ◌∷◌, Option, Some, None, arith, refl, append_assoc}
 use Rattle.std.specs.Option.{option_map}
 use Rattle.trace_text.specs.declared.round.Round.{Round}
 use Rattle.trace_text.specs.Round.{round_of}
-use Rattle.trace_text.specs.Form.{is_end, then_rounds, rounds_of}
+use Rattle.trace_text.specs.Form.{is_end, rounds_of}
 
 -- rounds behind those of a list
 abbrev pub after_these : List Round → Option (List Round) → Option (List Round)

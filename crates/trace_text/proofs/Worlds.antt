@@ -1,5 +1,5 @@
 -- The worlds that are read are valid.
-use Rattle.std.proofs.Common.{ℕ, ◌≡◌, ◌&&◌, true, List, [], ◌∷◌, flat_map, Option, Some, None, refl, subst, lit≤}
+use Rattle.std.proofs.Common.{ℕ, ◌≡◌, true, List, [], ◌∷◌, flat_map, Option, Some, None, refl, subst, lit≤}
 use Rattle.std.specs.List.{list_all}
 use Rattle.std.specs.Option.{option_map}
 use Rattle.d3d_machine.specs.declared.calls.Call.{Call}
@@ -20,7 +20,7 @@ named_calls calls (r ∷ rounds) = named_calls calls rounds
 pub rounds_make_world : (rounds : List Round) → IsWorld (world_of_rounds rounds)
 rounds_make_world rounds = record {
   named = rw (named_calls (flat_map calls_of rounds) rounds) refl;
-  one_queue = lit≤ tt;
+  one_queue = refl;
   threads = lit≤ tt;
   resources = lit≤ tt;
   sizes = refl;

@@ -1,5 +1,5 @@
 -- The form of a trace: declarations, rounds, and the last line.
-use Rattle.std.specs.Prelude.{ℕ, zero, suc, ◌==◌, ◌&&◌, nat_lt, List, [], ◌∷◌, length, Option, Some, None, Bool, true, false, if◌then◌else◌, codes, flat_map}
+use Rattle.std.specs.Prelude.{ℕ, zero, suc, ◌==◌, ◌&&◌, nat_lt, List, [], ◌∷◌, length, Option, Some, None, Bool, false, if◌then◌else◌, codes, flat_map}
 use Rattle.std.specs.List.{slice_split}
 use Rattle.std.specs.Option.{option_map}
 use Rattle.std.specs.Str.{bytes_eq}
@@ -41,6 +41,7 @@ unfoldable pub is_end : List (List ℕ) → Bool
 is_end (line ∷ last ∷ []) = bytes_eq line (codes "end") && bytes_eq last []
 is_end _ = false
 
+-- a round and those behind it, which `more` reads where the last line does not follow
 abbrev pub then_rounds : (ℕ → List (List ℕ) → Option (List Round)) → Option (Round × List (List ℕ)) → Option (List Round)
 then_rounds more None = None
 then_rounds more (Some p) = if is_end p.1 then Some (p.0 ∷ []) else option_map (λ rs. p.0 ∷ rs) (more p.0.value p.1)
@@ -50,6 +51,7 @@ unfoldable pub rounds_of : ℕ → ℕ → List (List ℕ) → Option (List Roun
 rounds_of zero above lines = None
 rounds_of (suc left) above lines = then_rounds (rounds_of left) (round_of above lines)
 
+-- the rounds of the lines behind the declarations
 abbrev pub rounds_behind : Option (List (List ℕ)) → Option (List Round)
 rounds_behind None = None
 rounds_behind (Some lines) = rounds_of ROUNDS 0 lines
@@ -69,6 +71,7 @@ world_with calls = record {
   scripts = calls ∷ [];
 }
 
+-- the world of rounds
 abbrev pub world_of_rounds : List Round → World
 world_of_rounds rounds = world_with (flat_map calls_of rounds)
 

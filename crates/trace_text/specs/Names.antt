@@ -1,5 +1,5 @@
 -- The names of the objects that a run's output speaks of.
-use Rattle.std.specs.Prelude.{ℕ, List, [], ◌∷◌, slice_get, Option, Some, None, codes}
+use Rattle.std.specs.Prelude.{ℕ, List, [], ◌∷◌, slice_get, Some, None, codes}
 use Rattle.trace_text.specs.declared.names.Names.{Names}
 
 -- the name of that place; empty where there is none

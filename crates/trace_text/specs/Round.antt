@@ -1,5 +1,5 @@
 -- One round of a trace: its lines, and the calls that they write.
-use Rattle.std.specs.Prelude.{ℕ, ◌==◌, ◌&&◌, nat_lt, List, [], ◌∷◌, Option, Some, None, Bool, true, false, if◌then◌else◌, codes}
+use Rattle.std.specs.Prelude.{ℕ, ◌==◌, ◌&&◌, nat_lt, List, [], ◌∷◌, Option, Some, None, Bool, if◌then◌else◌, codes}
 use Rattle.std.specs.List.{slice_split}
 use Rattle.std.specs.Str.{bytes_eq}
 use Rattle.d3d_machine.specs.declared.calls.Call.{Call}
@@ -12,6 +12,7 @@ use Rattle.trace_text.specs.Words.{number_of, data_word_of}
 abbrev pub words_of : List ℕ → List (List ℕ)
 words_of line = slice_split (λ b. b == 32) line
 
+-- four words, where each is one
 abbrev pub four_of : Option ℕ → Option ℕ → Option ℕ → Option ℕ → Option (List ℕ)
 four_of (Some a) (Some b) (Some c) (Some d) = Some (a ∷ b ∷ c ∷ d ∷ [])
 four_of (Some a) (Some b) (Some c) None = None
@@ -50,6 +51,7 @@ unfoldable pub risen_round : ℕ → List ℕ → ℕ → ℕ → Option Round
 risen_round above ws signal wait =
     if nat_lt above signal && (signal == wait) then Some (record { words = ws; value = signal }) else None
 
+-- the same, where each of the three lines is of its form
 unfoldable pub joined_round : ℕ → Option (List ℕ) → Option ℕ → Option ℕ → Option Round
 joined_round above (Some ws) (Some signal) (Some wait) = risen_round above ws signal wait
 joined_round above (Some ws) (Some signal) None = None
@@ -61,6 +63,7 @@ abbrev pub round_of_three : ℕ → List ℕ → List ℕ → List ℕ → Optio
 round_of_three above write signal wait =
     joined_round above (written_of (words_of write)) (signal_of (words_of signal)) (wait_of (words_of wait))
 
+-- a round with the lines behind it
 abbrev pub with_rest : List (List ℕ) → Option Round → Option (Round × List (List ℕ))
 with_rest rest None = None
 with_rest rest (Some r) = Some (r, rest)

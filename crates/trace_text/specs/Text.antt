@@ -47,6 +47,7 @@ unfoldable pub answer_lines : List ℕ → ℕ → List Reply → List (List (Li
 answer_lines name k [] = []
 answer_lines name k (r ∷ rs) = reply_lines name k r ++ answer_lines name (k + 1) rs
 
+-- the reply of an event, where it is a call of that thread
 abbrev pub replies_by : ℕ → Event → List Reply
 replies_by t (event.Call u c r) = if (u.0 == t) then r ∷ [] else []
 replies_by t (event.Awake u) = []

@@ -36,7 +36,11 @@ fn hex_digit(value: u32) -> u8
     requires { value < 16 }
     ensures { result ≡ digit_char value }
 {
-    if value < 10 { b'0' + value as u8 } else { b'a' + (value as u8 - 10) }
+    if value < 10 {
+        b'0' + value as u8
+    } else {
+        b'a' + (value as u8 - 10)
+    }
 }
 
 /// The eight hexadecimal digits of a number.

@@ -48,7 +48,9 @@ fn decimal_value(digits: &[u8]) -> Option<u64>
 {
     let mut value: u64 = 0;
     for b in digits {
-        value = value.checked_mul(10)?.checked_add(u64::from(decimal_digit(*b)))?;
+        value = value
+            .checked_mul(10)?
+            .checked_add(u64::from(decimal_digit(*b)))?;
     }
     Some(value)
 }
@@ -79,7 +81,8 @@ fn hex_digit(b: u8) -> u8
 fn all_hex_digits(word: &[u8]) -> bool
     ensures { result ≡ list_all is_hex_digit word.now }
 {
-    word.iter().all(|b| (48 <= *b && *b <= 57) || (97 <= *b && *b <= 102))
+    word.iter()
+        .all(|b| (48 <= *b && *b <= 57) || (97 <= *b && *b <= 102))
 }
 
 /// 1 to 8 lower-case hexadecimal digits.

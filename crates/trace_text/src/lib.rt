@@ -5,14 +5,14 @@ mod append;
 mod data;
 mod lines;
 mod names;
-mod text;
 mod reader;
 mod round;
 mod status;
 #[cfg(test)]
 mod tests;
+mod text;
 
 pub use names::{Ending, Names, names_of_form};
-pub use text::{output, plain_line};
-pub use reader::{ROUNDS, read_world};
+pub use reader::{ROUNDS, read_world, read_worlds_are_valid};
 pub use status::{Cause, Report, Rule, Status, Verdict};
+pub use text::{output, plain_line};

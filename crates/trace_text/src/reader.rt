@@ -123,8 +123,14 @@ fn calls_in(alloc: Global, rounds: &[Round]) -> Result<Seq<Call>, Memory>
 fn make_world(alloc: Global, calls: Seq<Call>) -> Result<World, Memory>
     ensures { IfOk result (λ w. w ≡ world_with calls) }
 {
-    let upload = Resource::Buffer { home: Home::Upload, words: 4 };
-    let readback = Resource::Buffer { home: Home::Readback, words: 4 };
+    let upload = Resource::Buffer {
+        home: Home::Upload,
+        words: 4,
+    };
+    let readback = Resource::Buffer {
+        home: Home::Readback,
+        words: 4,
+    };
     let mut scripts = Seq::new(alloc);
     scripts.push(calls)?;
     Ok(World {
@@ -153,5 +159,4 @@ pub fn read_world(alloc: Global, text: &[u8]) -> Result<Option<World>, Memory>
 /// The law: what is read is a valid world.
 pub fn read_worlds_are_valid()
     ensures { (text : List ℕ) → (w : World) → world_of text ≡ Some w → IsWorld w }
-{
-}
+{}

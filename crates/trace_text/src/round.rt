@@ -46,7 +46,11 @@ fn written(words: &[&[u8]]) -> Option<[u32; 4]>
     let [key, buffer, offset, a, b, c, d] = words else {
         return None;
     };
-    if are_three(key, buffer, offset, "write", "u", "0") { four(a, b, c, d) } else { None }
+    if are_three(key, buffer, offset, "write", "u", "0") {
+        four(a, b, c, d)
+    } else {
+        None
+    }
 }
 
 /// The value of the line `signal q f V`.
@@ -57,7 +61,11 @@ fn signalled(words: &[&[u8]]) -> Option<u64>
     let [key, queue, fence, value] = words else {
         return None;
     };
-    if are_three(key, queue, fence, "signal", "q", "f") { number(value) } else { None }
+    if are_three(key, queue, fence, "signal", "q", "f") {
+        number(value)
+    } else {
+        None
+    }
 }
 
 /// The value of the line `hostwait f V`.
@@ -80,8 +88,14 @@ fn awaited(words: &[&[u8]]) -> Option<u64>
 fn are_recorded(reset: &[u8], copy: &[u8], close: &[u8], execute: &[u8], read: &[u8]) -> bool
     ensures { result ≡ is_recorded reset.now copy.now close.now execute.now read.now }
 {
-    are_three(reset, copy, close, "reset l a", "copy l b 0 u 0 16", "close l")
-        && (is_word(execute, "execute q l") && is_word(read, "read b 0 16"))
+    are_three(
+        reset,
+        copy,
+        close,
+        "reset l a",
+        "copy l b 0 u 0 16",
+        "close l",
+    ) && (is_word(execute, "execute q l") && is_word(read, "read b 0 16"))
 }
 
 /// The round of those words and values, where the value is above that of the round before and the wait is for it.
@@ -89,12 +103,24 @@ fn are_recorded(reset: &[u8], copy: &[u8], close: &[u8], execute: &[u8], read: &
 fn risen(above: u64, words: [u32; 4], signal: u64, wait: u64) -> Option<Round>
     ensures { result ≡ risen_round above words signal wait }
 {
-    if above < signal && signal == wait { Some(Round { words, value: signal }) } else { None }
+    if above < signal && signal == wait {
+        Some(Round {
+            words,
+            value: signal,
+        })
+    } else {
+        None
+    }
 }
 
 /// The same, where each line is of its form.
 #[tactic(auto, unfolding(crate::specs::Round::joined_round))]
-fn joined(above: u64, words: Option<[u32; 4]>, signal: Option<u64>, wait: Option<u64>) -> Option<Round>
+fn joined(
+    above: u64,
+    words: Option<[u32; 4]>,
+    signal: Option<u64>,
+    wait: Option<u64>,
+) -> Option<Round>
     ensures { result ≡ joined_round above words signal wait }
 {
     match (words, signal, wait) {
@@ -104,7 +130,13 @@ fn joined(above: u64, words: Option<[u32; 4]>, signal: Option<u64>, wait: Option
 }
 
 /// The round of the three lines that differ from round to round.
-fn read_three(alloc: Global, above: u64, write: &[u8], signal: &[u8], wait: &[u8]) -> Result<Option<Round>, Memory>
+fn read_three(
+    alloc: Global,
+    above: u64,
+    write: &[u8],
+    signal: &[u8],
+    wait: &[u8],
+) -> Result<Option<Round>, Memory>
     ensures { IfOk result (λ found. found ≡ round_of_three above write.now signal.now wait.now) }
 {
     let write = words_in(alloc, write)?;
@@ -123,7 +155,18 @@ pub fn read_round<'a>(
     ensures { IfOk result (λ found.
         option_map (λ p. (p.0, map (λ line. line.now) p.1.now)) found ≡ round_of above (map (λ line. line.now) lines.now)) }
 {
-    let [write, reset, copy, close, execute, signal, wait, read, rest @ ..] = lines else {
+    let [
+        write,
+        reset,
+        copy,
+        close,
+        execute,
+        signal,
+        wait,
+        read,
+        rest @ ..,
+    ] = lines
+    else {
         return Ok(None);
     };
     if !are_recorded(reset, copy, close, execute, read) {
@@ -144,18 +187,42 @@ pub fn push_calls(alloc: Global, calls: &mut Seq<Call>, round: Round) -> Result<
     let (from, to) = (ResourceId(0), ResourceId(1));
     let words = Seq::from_slice(alloc, &round.words)?;
     let lists = Seq::from_slice(alloc, &[list])?;
-    calls.push(Call::Write { buffer: from, offset: 0, words })?;
+    calls.push(Call::Write {
+        buffer: from,
+        offset: 0,
+        words,
+    })?;
     calls.push(Call::Reset { list, allocator })?;
-    calls.push(Call::Recording { list, what: copy_of(from, to) })?;
+    calls.push(Call::Recording {
+        list,
+        what: copy_of(from, to),
+    })?;
     calls.push(Call::Close { list })?;
     calls.push(Call::Execute { queue, lists })?;
-    calls.push(Call::Signal { queue, fence, value: round.value })?;
-    calls.push(Call::HostWait { fence, value: round.value })?;
-    calls.push(Call::Read { buffer: to, offset: 0, bytes: 16 })
+    calls.push(Call::Signal {
+        queue,
+        fence,
+        value: round.value,
+    })?;
+    calls.push(Call::HostWait {
+        fence,
+        value: round.value,
+    })?;
+    calls.push(Call::Read {
+        buffer: to,
+        offset: 0,
+        bytes: 16,
+    })
 }
 
 fn copy_of(from: ResourceId, to: ResourceId) -> Record
     ensures { result ≡ Copy to 0 from 0 16 }
 {
-    Record::Copy { to, to_offset: 0, from, from_offset: 0, bytes: 16 }
+    Record::Copy {
+        to,
+        to_offset: 0,
+        from,
+        from_offset: 0,
+        bytes: 16,
+    }
 }

@@ -57,7 +57,13 @@ fn put_reply(out: &mut Vec<u8>, name: &[u8], call: u64, reply: &Reply) -> Result
 /// Appends the line of an event, where it is a call of the thread and its reply has one; the number of the thread's
 /// next call.
 #[tactic(auto, unfolding(crate::specs::Text::answer_lines))]
-fn put_event(out: &mut Vec<u8>, name: &[u8], thread: usize, call: u64, event: &Event) -> Result<u64, Memory>
+fn put_event(
+    out: &mut Vec<u8>,
+    name: &[u8],
+    thread: usize,
+    call: u64,
+    event: &Event,
+) -> Result<u64, Memory>
     requires { call + 1 < 2 ^ 64 }
     ensures next { IfOk result (λ next. next ≡ call + length (replies_by thread event.now)) }
     ensures small { IfOk result (λ next. next ≤ call + 1) }
@@ -65,7 +71,11 @@ fn put_event(out: &mut Vec<u8>, name: &[u8], thread: usize, call: u64, event: &E
         ≡ out.old.items ++ flat_map line_text (answer_lines name.now call (replies_by thread event.now))) }
 {
     match event {
-        Event::Call { thread: by, call: _, reply } => {
+        Event::Call {
+            thread: by,
+            call: _,
+            reply,
+        } => {
             if by.0 as usize == thread {
                 put_reply(out, name, call, reply)?;
                 Ok(call + 1)
@@ -80,7 +90,12 @@ fn put_event(out: &mut Vec<u8>, name: &[u8], thread: usize, call: u64, event: &E
 
 /// Appends the lines of a thread's answered calls.
 #[tactic(auto, unfolding(crate::specs::Text::replies_in, crate::specs::Text::answer_lines))]
-fn put_thread(out: &mut Vec<u8>, name: &[u8], thread: usize, history: &[Event]) -> Result<(), Memory>
+fn put_thread(
+    out: &mut Vec<u8>,
+    name: &[u8],
+    thread: usize,
+    history: &[Event],
+) -> Result<(), Memory>
     ensures { OnOk result (out.new.items
         ≡ out.old.items ++ flat_map line_text (answer_lines name.now 1 (replies_in thread history.now))) }
 {
@@ -118,7 +133,12 @@ fn put_fences(out: &mut Vec<u8>, names: &[Seq<u8>], values: &[u64]) -> Result<()
 
 /// Appends a line for each object of those numbers.
 #[tactic(auto, unfolding(crate::specs::Text::stalled_lines, crate::specs::Text::line_text, crate::specs::Text::rest_of_line))]
-fn put_stalled(out: &mut Vec<u8>, kind: &[u8], names: &[Seq<u8>], numbers: &[u32]) -> Result<(), Memory>
+fn put_stalled(
+    out: &mut Vec<u8>,
+    kind: &[u8],
+    names: &[Seq<u8>],
+    numbers: &[u32],
+) -> Result<(), Memory>
     ensures { OnOk result (out.new.items ≡ out.old.items ++ flat_map line_text (stalled_lines kind.now names.now numbers.now)) }
 {
     for number in numbers {
@@ -132,7 +152,12 @@ fn put_stalled(out: &mut Vec<u8>, kind: &[u8], names: &[Seq<u8>], numbers: &[u32
 
 /// Appends the lines of the answered calls and of the fences' last values.
 #[tactic(auto, unfolding(crate::specs::Text::run_lines))]
-fn put_run(out: &mut Vec<u8>, names: &Names, history: &[Event], ending: &Ending) -> Result<(), Memory>
+fn put_run(
+    out: &mut Vec<u8>,
+    names: &Names,
+    history: &[Event],
+    ending: &Ending,
+) -> Result<(), Memory>
     ensures { OnOk result (out.new.items ≡ out.old.items ++ flat_map line_text (run_lines names.now history.now ending.now)) }
 {
     put_calls(out, names.threads.as_slice(), history)?;
@@ -144,8 +169,18 @@ fn put_run(out: &mut Vec<u8>, names: &Names, history: &[Event], ending: &Ending)
 fn put_left(out: &mut Vec<u8>, names: &Names, ending: &Ending) -> Result<(), Memory>
     ensures { OnOk result (out.new.items ≡ out.old.items ++ flat_map line_text (left_lines names.now ending.now)) }
 {
-    put_stalled(out, b"thread", names.threads.as_slice(), ending.threads.as_slice())?;
-    put_stalled(out, b"queue", names.queues.as_slice(), ending.queues.as_slice())
+    put_stalled(
+        out,
+        b"thread",
+        names.threads.as_slice(),
+        ending.threads.as_slice(),
+    )?;
+    put_stalled(
+        out,
+        b"queue",
+        names.queues.as_slice(),
+        ending.queues.as_slice(),
+    )
 }
 
 /// Appends the line `broken RULE EVENT`.

@@ -47,7 +47,7 @@ fn bad_lines() -> [(usize, &'static str); 30] {
         (0, "d3dtrace 1 \n"),
         (0, "\nd3dtrace 1\n"),
         (1, "queue q  direct\n"),
-        (1, "queue q copy\n"),
+        (1, "queue r direct\n"),
         (2, "fence f 1\n"),
         (3, "buffer u upload 20\n"),
         (4, "buffer b upload 16\n"),

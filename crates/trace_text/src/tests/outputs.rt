@@ -10,7 +10,10 @@ use std::test::Fail;
 fn answered(thread: u32, reply: Reply) -> Event {
     Event::Call {
         thread: ThreadId(thread),
-        call: Call::HostWait { fence: FenceId(0), value: 1 },
+        call: Call::HostWait {
+            fence: FenceId(0),
+            value: 1,
+        },
         reply,
     }
 }
@@ -45,7 +48,10 @@ fn status_rows() -> [(Status, &'static str); 10] {
         found: 4_294_967_295,
     };
     [
-        (Status::Done, "t 8 words 00000001 00000002 00000003 00000004\nfence f 1\n"),
+        (
+            Status::Done,
+            "t 8 words 00000001 00000002 00000003 00000004\nfence f 1\n",
+        ),
         (
             Status::Stalled,
             "t 8 words 00000001 00000002 00000003 00000004\nfence f 1\nstalled thread t\nstalled queue q\n",
@@ -146,4 +152,3 @@ fn calls_count_by_thread_and_threads_print_in_order(rt: HostRuntime) -> Result<(
     assert!(rt; found.as_slice() == three_threads_text().as_bytes());
     Ok(())
 }
-

@@ -1,6 +1,6 @@
 //! Texts of the form, and the worlds that they write.
 
-use crate::{ROUNDS, read_world};
+use crate::{ROUNDS, read_world, read_worlds_are_valid};
 use d3d_machine::{Call, Record, Resource, World};
 use dx_base::{AllocatorId, FenceId, Home, ListId, ListType, Memory, QueueId, ResourceId, Seq};
 use std::alloc::{AllocError, Global};
@@ -95,7 +95,11 @@ fn calls_by_hand(alloc: Global, words: [u32; 4], value: u64) -> Result<Seq<Call>
         queue,
         lists: Seq::from_slice(alloc, &[list])?,
     })?;
-    calls.push(Call::Signal { queue, fence, value })?;
+    calls.push(Call::Signal {
+        queue,
+        fence,
+        value,
+    })?;
     calls.push(Call::HostWait { fence, value })?;
     calls.push(Call::Read {
         buffer: ResourceId(1),
@@ -107,8 +111,14 @@ fn calls_by_hand(alloc: Global, words: [u32; 4], value: u64) -> Result<Seq<Call>
 
 /// The world of those calls, by hand.
 fn world_by_hand(alloc: Global, calls: Seq<Call>) -> Result<World, Memory> {
-    let upload = Some(Resource::Buffer { home: Home::Upload, words: 4 });
-    let readback = Some(Resource::Buffer { home: Home::Readback, words: 4 });
+    let upload = Some(Resource::Buffer {
+        home: Home::Upload,
+        words: 4,
+    });
+    let readback = Some(Resource::Buffer {
+        home: Home::Readback,
+        words: 4,
+    });
     let mut scripts = Seq::new(alloc);
     scripts.push(calls)?;
     Ok(World {
@@ -144,6 +154,7 @@ fn a_text_of_the_form_gives_its_world(rt: HostRuntime) -> Result<(), Fail> {
         let by_hand = world_by_hand(alloc, calls_by_hand(alloc, numbers, number)?)?;
         assert!(rt; found == by_hand, "at {words}");
     }
+    read_worlds_are_valid();
     Ok(())
 }
 
@@ -166,7 +177,11 @@ fn one_round_to_the_limit_are_read(rt: HostRuntime) -> Result<(), Fail> {
     for rounds in 0..ROUNDS + 2 {
         let text = text_of_rounds(alloc, rounds)?;
         let found = read_world(alloc, text.as_bytes())?;
-        assert_eq!(rt; found.is_some(), 0 < rounds && rounds <= ROUNDS, "at {rounds}");
+        assert_eq!(rt;
+            found.is_some(),
+            0 < rounds && rounds <= ROUNDS,
+            "at {rounds}"
+        );
     }
     Ok(())
 }

@@ -1,7 +1,5 @@
-use Rattle.std.proofs.Common.{◌≡◌, ◌<◌, ◌++◌, [], ◌∷◌, map, Some, None, arith, refl, sym, ◌∙◌}
-use Rattle.std.proofs.lemmas.Result.{IfOk-weaker}
+use Rattle.std.proofs.Common.{arith, refl, sym}
 use Rattle.trace_text.specs.Form.{rounds_of}
-use Rattle.trace_text.specs.Round.{round_of}
 use Rattle.trace_text.proofs.Rounds.{rounds_none, rounds_last, rounds_more}
 use Rattle.trace_text.proofs.reader.+push_rounds.Goals as goal
 

@@ -5,5 +5,5 @@ use Rattle.trace_text.proofs.text.put_thread.Given as goal
 abbrev pub invariant-loop-event : goal.invariant-loop-event
 invariant-loop-event l =
     (l.out.items ++ flat_map line_text (answer_lines l.name l.call (replies_in l.thread (drop l.event-index l.history)))
-      ≡ l.initial.out.items ++ flat_map line_text (answer_lines l.name 1 (replies_in l.thread l.history)))
+    ≡ l.initial.out.items ++ flat_map line_text (answer_lines l.name 1 (replies_in l.thread l.history)))
     × (l.call ≤ l.event-index + 1)

@@ -1,0 +1,120 @@
+-- The system keeps what it keeps at each step.
+use Rattle.std.proofs.Common.{ℕ, zero, suc, ◌≡◌, ◌<◌, ◌≤◌, ◌+◌, ◌-◌, ◌∙◌, sym, ap, subst, refl, arith, List, [], ◌∷◌, ◌++◌, length, map, Some, None, Option, Bool, true, false, get_or, cond}
+use Rattle.std.proofs.lemmas.Bool.{ltb-true}
+use Rattle.std.proofs.lemmas.List.{length-map}
+use Rattle.std.proofs.lemmas.Option.{slice_get_within, slice_get-map, get_or_from_slice_get}
+use Rattle.std.specs.List.{slice_get, list_all}
+use Rattle.std.specs.Option.{option_map}
+use Rattle.std.specs.Prelude.{◌&&◌, nat_lt}
+use Rattle.dx_base.specs.Lists.{changed_at}
+use Rattle.dx_base.specs.declared.ids.ThreadId.{ThreadId}
+use Rattle.dx_base.proofs.Lists.{and_both}
+use Rattle.d3d_machine.specs.declared.world.World.{World}
+use Rattle.d3d_machine.specs.declared.calls.Call.{Call}
+use Rattle.d3d_machine.specs.declared.events.Event.{Event}
+use Rattle.d3d_machine.specs.declared.events.Event.TheVariants as event
+use Rattle.d3d_machine.specs.State.{Place, place_of, opening_place, next_call, script_of}
+use Rattle.d3d_machine.specs.Play.{May, SameButWords, is_marked, state_after}
+use Rattle.d3d_machine.specs.Fences.{applied_updates, is_met}
+use Rattle.d3d_machine.proofs.Named.{all_at}
+use Rattle.vk_port.specs.declared.plan.DevicePlan.{DevicePlan}
+use Rattle.vk_port.specs.VkState.{VkState}
+use Rattle.sys_core.specs.declared.parts.Armed.{Armed}
+use Rattle.sys_core.specs.declared.parts.Seat.{Seat}
+use Rattle.sys_core.specs.declared.parts.Parts.{Parts}
+use Rattle.sys_core.specs.Lowering.{plan_of_world}
+use Rattle.sys_core.specs.Parts.{Queued, queued, updates_in, updates_at, is_met_by, reply_by, lists_by, held_by, device_by, seat_after, woken_seat}
+use Rattle.sys_core.specs.Steps.{is_ready_thread, is_ready_place}
+use Rattle.sys_core.specs.Consistent.{place_from, is_behind, waiting_from, is_armed_met, IsConsistent, AreFences}
+use Rattle.sys_core.specs.Serving.{Serves, StaysParts}
+use Rattle.sys_core.specs.Keeps.{Keeps, IsSystem, ready_by}
+use Rattle.sys_core.proofs.Calling.{consistent_call, consistent_awake}
+
+-- the machine's place of a thread, from the system's
+place_is : (w : World) (h : List Event) (p : Parts) (v : VkState) (t : ℕ) (s : Seat) →
+    IsConsistent w h p.lists p.seats (map updates_in p.fences) (map queued p.held) v → slice_get p.seats t ≡ Some s → place_of (state_after w h).desk t ≡ place_from w h s
+place_is w h p v t s is at =
+    ap (λ ts. elim (slice_get ts t) [ None ↦ opening_place | Some x ↦ x ]) is.seats_are.threads
+    ∙ ap (λ (o : Option Place). elim o [ None ↦ opening_place | Some x ↦ x ]) (slice_get-map (place_from w h) p.seats t ∙ ap (option_map (place_from w h)) at)
+
+met_is : (w : World) (h : List Event) (fences : List (List ℕ)) (a : Armed) → AreFences w h fences → is_behind w h (Some a) ≡ true → is_met_by fences a ≡ is_armed_met w h a
+met_is w h fences a are behind =
+    let within : a.fence.0 < length w.fences =
+      ltb-true a.fence.0 (length w.fences) (and_both (nat_lt a.fence.0 (length w.fences)) (nat_lt a.since (length (applied_updates w h a.fence.0))) behind).0 in
+    ap (λ us. is_met us a.since a.value) (get_or_from_slice_get fences a.fence.0 (applied_updates w h a.fence.0) [] (are.each a.fence.0 within))
+
+ready_same : (w : World) (h : List Event) (script : List Call) (fences : List (List ℕ)) (s : Seat) → AreFences w h fences → is_behind w h s.waits ≡ true →
+    ready_by script fences s ≡ is_ready_place script (place_from w h s)
+ready_same w h script fences s are behind = by_wait s.made s.waits behind
+  where
+    by_wait : (made : ℕ) (o : Option Armed) → is_behind w h o ≡ true →
+      ready_by script fences (record { made = made; waits = o }) ≡ is_ready_place script (place_from w h (record { made = made; waits = o }))
+    by_wait made None behind = refl
+    by_wait made (Some a) behind = met_is w h fences a are behind
+
+-- a thread can go on, by the system's place of it, where its step is enabled
+pub ready_is : {D : Type 0} (state : D → VkState) (plan_of : D → Option DevicePlan) (w : World) (h : List Event) (p : Parts) (d : D) (t : ℕ) (s : Seat) →
+    Keeps state plan_of w h p d → slice_get p.seats t ≡ Some s → ready_by (script_of w t) (map updates_in p.fences) s ≡ is_ready_thread w h t
+ready_is state plan_of w h p d t s keeps at =
+    ready_same w h (script_of w t) (map updates_in p.fences) s keeps.consistent.fences_are (all_at (λ x. is_behind w h x.waits) p.seats t s keeps.consistent.seats_are.behind at)
+    ∙ ap (is_ready_place (script_of w t)) (sym (place_is w h p (state d) t s keeps.consistent at))
+
+-- nothing has changed but room
+pub keeps_same : {D : Type 0} (state : D → VkState) (plan_of : D → Option DevicePlan) (w : World) (h : List Event) (p r : Parts) (d e : D) →
+    Keeps state plan_of w h p d → StaysParts p r → state e ≡ state d → plan_of e ≡ plan_of d → Keeps state plan_of w h r e
+keeps_same state plan_of w h p r d e keeps stays device plan = record {
+  consistent =
+    subst (λ v. IsConsistent w h r.lists r.seats (map updates_in r.fences) (map queued r.held) v) (sym device)
+    (subst (λ x. IsConsistent w h r.lists r.seats (map updates_in r.fences) x (state d)) (sym stays.held)
+    (subst (λ x. IsConsistent w h r.lists r.seats (map updates_in x) (map queued p.held) (state d)) (sym stays.fences)
+    (subst (λ x. IsConsistent w h r.lists x (map updates_in p.fences) (map queued p.held) (state d)) (sym stays.seats)
+    (subst (λ x. IsConsistent w h x p.seats (map updates_in p.fences) (map queued p.held) (state d)) (sym stays.lists) keeps.consistent))));
+  plan = plan ∙ keeps.plan;
+}
+
+-- a call was served, and the thread's place moved
+pub keeps_call : {D : Type 0} (state : D → VkState) (plan_of : D → Option DevicePlan) (w : World) (h : List Event) (p r x : Parts) (d e : D) (t : ThreadId) (c : Call) (s : Seat) →
+    Keeps state plan_of w h p d → slice_get p.seats t.0 ≡ Some s → s.waits ≡ None → slice_get (script_of w t.0) s.made ≡ Some c →
+    Serves w c p r → state e ≡ device_by w p.lists (state d) c → plan_of e ≡ plan_of d →
+    x.lists ≡ r.lists → x.fences ≡ r.fences → x.held ≡ r.held → x.seats ≡ changed_at (seat_after (map updates_in p.fences) c) t.0 r.seats →
+    Keeps state plan_of w (h ++ event.Call t c (reply_by w p.lists (state d) c) ∷ []) x e
+keeps_call state plan_of w h p r x d e t c s keeps at waits next serves device plan lists fences held seats =
+    let place : place_of (state_after w h).desk t.0 ≡ place_from w h s = place_is w h p (state d) t.0 s keeps.consistent at in
+    let k : List Event = h ++ event.Call t c (reply_by w p.lists (state d) c) ∷ [] in
+    let is : IsConsistent w k (lists_by w p.lists c) (changed_at (seat_after (map updates_in p.fences) c) t.0 p.seats) (map updates_in p.fences) (held_by w p.lists c (map queued p.held)) (device_by w p.lists (state d) c) =
+      consistent_call w h p.lists p.seats (map updates_in p.fences) (map queued p.held) (state d) t c keeps.consistent
+        (ap (λ (y : Place). y.waits) place ∙ ap (option_map (waiting_from w h)) waits)
+        (ap (λ (y : Place). slice_get (script_of w t.0) y.made) place ∙ next) in
+    record {
+      consistent =
+        subst (λ v. IsConsistent w k x.lists x.seats (map updates_in x.fences) (map queued x.held) v) (sym device)
+        (subst (λ y. IsConsistent w k x.lists x.seats (map updates_in x.fences) y (device_by w p.lists (state d) c)) (sym (ap (map queued) held ∙ serves.held))
+        (subst (λ y. IsConsistent w k x.lists x.seats (map updates_in y) (held_by w p.lists c (map queued p.held)) (device_by w p.lists (state d) c)) (sym (fences ∙ serves.fences))
+        (subst (λ y. IsConsistent w k x.lists y (map updates_in p.fences) (held_by w p.lists c (map queued p.held)) (device_by w p.lists (state d) c))
+          (sym (seats ∙ ap (changed_at (seat_after (map updates_in p.fences) c) t.0) serves.seats))
+        (subst (λ y. IsConsistent w k y (changed_at (seat_after (map updates_in p.fences) c) t.0 p.seats) (map updates_in p.fences) (held_by w p.lists c (map queued p.held)) (device_by w p.lists (state d) c))
+          (sym (lists ∙ serves.lists)) is))));
+      plan = plan ∙ keeps.plan;
+    }
+
+-- a thread woke
+pub keeps_awake : {D : Type 0} (state : D → VkState) (plan_of : D → Option DevicePlan) (w : World) (h : List Event) (p x : Parts) (d : D) (t : ThreadId) (s : Seat) (a : Armed) →
+    Keeps state plan_of w h p d → slice_get p.seats t.0 ≡ Some s → s.waits ≡ Some a → is_ready_thread w h t.0 ≡ true →
+    x.lists ≡ p.lists → x.fences ≡ p.fences → x.held ≡ p.held → x.seats ≡ changed_at woken_seat t.0 p.seats →
+    Keeps state plan_of w (h ++ event.Awake t ∷ []) x d
+keeps_awake state plan_of w h p x d t s a keeps at waits ready lists fences held seats =
+    let place : place_of (state_after w h).desk t.0 ≡ place_from w h s = place_is w h p (state d) t.0 s keeps.consistent at in
+    let k : List Event = h ++ event.Awake t ∷ [] in
+    let waiting : (place_of (state_after w h).desk t.0).waits ≡ Some (waiting_from w h a) = ap (λ (y : Place). y.waits) place ∙ ap (option_map (waiting_from w h)) waits in
+    let may : is_marked (place_of (state_after w h).desk t.0).waits ≡ true =
+      ap is_marked waiting ∙ sym (ap (λ o. elim o [ None ↦ nat_lt (place_of (state_after w h).desk t.0).made (length (script_of w t.0)) | Some y ↦ y.marked ]) waiting) ∙ ready in
+    let is : IsConsistent w k p.lists (changed_at woken_seat t.0 p.seats) (map updates_in p.fences) (map queued p.held) (state d) =
+      consistent_awake w h p.lists p.seats (map updates_in p.fences) (map queued p.held) (state d) t keeps.consistent may in
+    record {
+      consistent =
+        subst (λ y. IsConsistent w k x.lists x.seats (map updates_in x.fences) (map queued y) (state d)) (sym held)
+        (subst (λ y. IsConsistent w k x.lists x.seats (map updates_in y) (map queued p.held) (state d)) (sym fences)
+        (subst (λ y. IsConsistent w k x.lists y (map updates_in p.fences) (map queued p.held) (state d)) (sym seats)
+        (subst (λ y. IsConsistent w k y (changed_at woken_seat t.0 p.seats) (map updates_in p.fences) (map queued p.held) (state d)) (sym lists) is)));
+      plan = keeps.plan;
+    }

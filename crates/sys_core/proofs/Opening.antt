@@ -1,0 +1,101 @@
+-- The system is consistent before any call, when the start-up batch is submitted.
+use Rattle.std.proofs.Common.{ℕ, zero, suc, ◌≡◌, ◌<◌, ◌≤◌, ◌+◌, ◌-◌, ◌∙◌, sym, ap, subst, refl, arith, List, [], ◌∷◌, ◌++◌, length, map, Some, None, Option, Bool, true, false, get_or, replicate}
+use Rattle.std.proofs.lemmas.List.{length-map, length-replicate}
+use Rattle.std.proofs.lemmas.Option.{slice_get_within, slice_get-map, slice_get-get_or}
+use Rattle.std.specs.List.{slice_get, list_all}
+use Rattle.std.specs.Option.{option_map}
+use Rattle.std.specs.Prelude.{nat_lt, ◌&&◌}
+use Rattle.dx_base.specs.Lists.{changed_at}
+use Rattle.d3d_machine.specs.declared.world.World.{World}
+use Rattle.d3d_machine.specs.declared.calls.Call.{Call}
+use Rattle.d3d_machine.specs.declared.events.Listed.{Listed}
+use Rattle.d3d_machine.specs.World.{IsWorld}
+use Rattle.d3d_machine.specs.State.{declared_list, opening_place, first_state, value_of}
+use Rattle.d3d_machine.specs.Fences.{applied_updates}
+use Rattle.vk_port.specs.declared.plan.DevicePlan.{DevicePlan}
+use Rattle.vk_port.specs.declared.lanes.Lane.{Lane}
+use Rattle.vk_port.specs.Journal.{of_queue, first_number}
+use Rattle.vk_port.specs.Valid.{IsValid, Matches}
+use Rattle.vk_port.specs.VkState.{VkState, lane_of, no_lane, counter_of, first_state as first_device}
+use Rattle.vk_port.specs.After.{after_submit, lane_after_submit}
+use Rattle.vk_port.proofs.Valid.{first_valid, submit_valid}
+use Rattle.vk_port.proofs.Matching.{first_matches, submit_matches}
+use Rattle.dx_base.proofs.Lists.{map_alike}
+use Rattle.sys_core.specs.declared.parts.Seat.{Seat}
+use Rattle.sys_core.specs.Lowering.{plan_of_world, startup}
+use Rattle.sys_core.specs.Parts.{Queued, no_queue, opening_seat}
+use Rattle.sys_core.specs.Consistent.{AreSeats, AreFences, IsHeld, AreHeld, IsDevice, IsConsistent, place_from, is_behind, finished_of}
+
+-- the device when the start-up batch is submitted
+abbrev pub opened : World → VkState
+opened w = after_submit (first_device (plan_of_world w)) (startup w)
+
+seats_open : (w : World) (scripts : List (List Call)) → map (λ _. opening_place) scripts ≡ map (place_from w []) (map (λ _. opening_seat) scripts)
+seats_open w [] = refl
+seats_open w (x ∷ xs) = ap (λ ys. opening_place ∷ ys) (seats_open w xs)
+
+behind_open : (w : World) (scripts : List (List Call)) → list_all (λ s. is_behind w [] s.waits) (map (λ _. opening_seat) scripts) ≡ true
+behind_open w [] = refl
+behind_open w (x ∷ xs) = behind_open w xs
+
+fences_open : (w : World) → AreFences w [] (map (λ v. v ∷ []) w.fences)
+fences_open w = record {
+  count = length-map w.fences (λ v. v ∷ []);
+  each = λ f within.
+    let at : slice_get w.fences f ≡ Some (get_or w.fences f 0) = slice_get-get_or w.fences f 0 within in
+    slice_get-map (λ v. v ∷ []) w.fences f ∙ ap (option_map (λ v. v ∷ [])) at
+    ∙ ap (λ (o : Option ℕ). Some (elim o [ None ↦ 0 | Some v ↦ v ] ∷ [])) (sym at);
+}
+
+zero_at : (n q : ℕ) → let zero_number : ℕ = 0 in (get_or (replicate n zero_number) q zero_number ≡ zero_number)
+zero_at zero q = refl
+zero_at (suc n) zero = refl
+zero_at (suc n) (suc q) = zero_at n q
+
+device_open : (w : World) → IsWorld w → IsDevice w [] (opened w)
+device_open w world =
+    let plan : DevicePlan = plan_of_world w in
+    let lanes : 0 < length (first_device plan).lanes = omega (arith, length-replicate (length w.queues) no_lane, world.one_queue) in
+    let lane : lane_of (opened w) 0 ≡ lane_after_submit (startup w) no_lane =
+      ap (λ k. get_or (changed_at (lane_after_submit (startup w)) 0 (replicate k no_lane)) 0 no_lane) world.one_queue in
+    record {
+      valid = submit_valid (first_device plan) (startup w) lanes refl (first_valid plan);
+      objects = submit_matches plan (first_device plan) (startup w) (first_matches plan);
+      stands = record {
+        rest = [];
+        begins = refl;
+        lowered_rest = tt;
+        queues = λ q within. record { numbered = refl; of_called = omega arith; counter_is = zero_at (length w.queues + 1) q; done = omega arith };
+      };
+      named = ap (λ n. nat_lt 0 n && true) world.one_queue;
+      finished = λ q within. subst (λ k. 0 ≡ (first_number k + finished_of (opened w) k) - 1) (let zeroth : 0 ≡ q = omega (arith, within, world.one_queue) in zeroth)
+        (let one : length (lane_of (opened w) 0).batches ≡ 1 = ap (λ (l : Lane). length l.batches) lane in omega (arith, one));
+    }
+
+const_at : {A : Type 0} (xs : List A) (q : ℕ) (x : Queued) → slice_get (map (λ _. no_queue) xs) q ≡ Some x → no_queue ≡ x
+const_at [] q x is = absurd (cc)
+const_at (y ∷ ys) zero x is = grind arith
+const_at (y ∷ ys) (suc q) x is = const_at ys q x is
+
+held_open : (w : World) → IsWorld w → AreHeld w [] (opened w) (map (λ _. no_queue) w.queues)
+held_open w world = record {
+  count = length-map w.queues (λ _. no_queue);
+  each = λ q x at.
+    let zeroth : 0 ≡ q = omega (arith, slice_get_within (map (λ _. no_queue) w.queues) q x at, length-map w.queues (λ _. no_queue), world.one_queue) in
+    subst (λ y. IsHeld w [] (opened w) q y) (const_at w.queues q x at)
+      (subst (λ k. IsHeld w [] (opened w) k no_queue) zeroth
+        (record { submitted_is = refl; within = omega arith; rest = refl; last_is = refl; pending = refl }));
+}
+
+-- before any call
+pub consistent_open : (w : World) → IsWorld w →
+    IsConsistent w [] (map (λ _. declared_list) w.lists) (map (λ _. opening_seat) w.scripts) (map (λ v. v ∷ []) w.fences) (map (λ _. no_queue) w.queues) (opened w)
+consistent_open w world = record {
+  world = world;
+  run = tt;
+  lists_are = refl;
+  seats_are = record { threads = seats_open w w.scripts; behind = behind_open w w.scripts };
+  fences_are = fences_open w;
+  held_are = held_open w world;
+  device = device_open w world;
+}

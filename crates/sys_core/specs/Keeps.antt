@@ -1,0 +1,36 @@
+-- What the system keeps at every step, and what is seen of it.
+use Rattle.std.specs.Prelude.{ℕ, ◌≡◌, List, [], ◌∷◌, ◌++◌, map, Option, Some, None, Bool, nat_lt, length}
+use Rattle.d3d_machine.specs.declared.world.World.{World}
+use Rattle.d3d_machine.specs.declared.calls.Call.{Call}
+use Rattle.d3d_machine.specs.declared.events.Event.{Event}
+use Rattle.d3d_machine.specs.World.{IsWorld}
+use Rattle.d3d_machine.specs.Play.{IsRunButWords}
+use Rattle.vk_port.specs.declared.plan.DevicePlan.{DevicePlan}
+use Rattle.vk_port.specs.VkState.{VkState}
+use Rattle.sys_core.specs.declared.parts.Armed.{Armed}
+use Rattle.sys_core.specs.declared.parts.Seat.{Seat}
+use Rattle.sys_core.specs.declared.parts.Parts.{Parts}
+use Rattle.sys_core.specs.Lowering.{plan_of_world}
+use Rattle.sys_core.specs.Parts.{queued, updates_in, is_met_by}
+use Rattle.sys_core.specs.Consistent.{IsDevice, IsConsistent}
+
+-- what is seen of the system: its world, its history, and its device
+pub record SysView (D : Type 0) : Type 0 where
+  pub world : World
+  pub history : List Event
+  pub device : D
+
+-- the parts and the device are those after the history, and the device has the world's objects
+pub record Keeps {D : Type 0} (state : D → VkState) (plan_of : D → Option DevicePlan) (w : World) (h : List Event) (p : Parts) (d : D) : Type 0 where
+  pub consistent : IsConsistent w h p.lists p.seats (map updates_in p.fences) (map queued p.held) (state d)
+  pub plan : plan_of d ≡ Some (plan_of_world w)
+
+-- the history is a run of the world but for words, and the device stands
+pub record IsSystem (w : World) (h : List Event) (v : VkState) : Type 0 where
+  pub world : IsWorld w
+  pub run : IsRunButWords w h
+  pub device : IsDevice w h v
+
+-- a thread can go on, by its place: it has a call left and does not wait, or its wait is met
+abbrev pub ready_by : List Call → List (List ℕ) → Seat → Bool
+ready_by script fences s = elim s.waits [ None ↦ nat_lt s.made (length script) | Some a ↦ is_met_by fences a ]
