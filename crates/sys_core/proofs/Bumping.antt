@@ -191,8 +191,8 @@ lane_length f q p v keeps = by_lanes q p v.lanes
 -- the device after a step that ends no operation's batch
 device_goes : (w : World) (h : List Event) (v u : VkState) → IsDevice w h v → IsValid u → Matches (plan_of_world w) u → u.journal ≡ v.journal →
     ((q : ℕ) → q < length w.queues → counter_of u q ≡ counter_of v q) → ((q : ℕ) → q < length w.queues → (first_number q + finished_of u q) - 1 ≡ (first_number q + finished_of v q) - 1) →
-    IsDevice w h u
-device_goes w h v u is valid objects journal counters finished = record {
+    (0 < finished_of u 0 → counter_of u (length w.queues) ≡ 1) → IsDevice w h u
+device_goes w h v u is valid objects journal counters finished opening = record {
   valid = valid;
   objects = objects;
   stands = record {
@@ -204,6 +204,7 @@ device_goes w h v u is valid objects journal counters finished = record {
   };
   named = ap (list_all (λ b. nat_lt b.queue (length w.queues))) journal ∙ is.named;
   finished = λ q within. is.finished q within ∙ sym (finished q within);
+  opening = opening;
 }
 
 -- the held operations look at the device's journal alone
@@ -233,7 +234,8 @@ consistent_pass w h lists seats fences held v q n is enabled =
     let u : VkState = after_step v (Passed q n) in
     consistent_goes w h lists seats fences held v u is refl
       (device_goes w h v u is.device (step_valid v (Passed q n) enabled is.device.valid) (step_matches (plan_of_world w) v (Passed q n) is.device.objects) refl (λ p within. refl)
-        (λ p within. ap (λ k. (first_number p + k) - 1) (same_batches v u p refl (λ i. lane_length lane_after_pass q i v (λ l. refl)))))
+        (λ p within. ap (λ k. (first_number p + k) - 1) (same_batches v u p refl (λ i. lane_length lane_after_pass q i v (λ l. refl))))
+        (λ some. is.device.opening (omega (arith, some, same_batches v u 0 refl (λ i. lane_length lane_after_pass q i v (λ l. refl))))))
 
 pub consistent_run : (w : World) (h : List Event) (lists : List Listed) (seats : List Seat) (fences : List (List ℕ)) (held : List Queued) (v : VkState) (q n k : ℕ) →
     IsConsistent w h lists seats fences held v → IsEnabled v (Ran q n k) → IsConsistent w h lists seats fences held (after_step v (Ran q n k))
@@ -241,7 +243,8 @@ consistent_run w h lists seats fences held v q n k is enabled =
     let u : VkState = after_step v (Ran q n k) in
     consistent_goes w h lists seats fences held v u is refl
       (device_goes w h v u is.device (step_valid v (Ran q n k) enabled is.device.valid) (step_matches (plan_of_world w) v (Ran q n k) is.device.objects) refl (λ p within. refl)
-        (λ p within. ap (λ i. (first_number p + i) - 1) (same_batches v u p refl (λ i. lane_length (lane_after_run n k) q i v (λ l. length_changed (with_done k) l.batches (place_of n l.batches))))))
+        (λ p within. ap (λ i. (first_number p + i) - 1) (same_batches v u p refl (λ i. lane_length (lane_after_run n k) q i v (λ l. length_changed (with_done k) l.batches (place_of n l.batches)))))
+        (λ some. is.device.opening (omega (arith, some, same_batches v u 0 refl (λ i. lane_length (lane_after_run n k) q i v (λ l. length_changed (with_done k) l.batches (place_of n l.batches)))))))
 
 -- the one queue has one more finished batch
 finished_bump : (w : World) (v : VkState) (n : ℕ) (b : Batch) → IsFirst w v n b → finished_of (after_step v (Bumped 0 n)) 0 ≡ n + 1
@@ -278,7 +281,9 @@ consistent_start w h lists seats fences held v is within enabled =
     consistent_goes w h lists seats fences held v u is refl
       (device_goes w h v u is.device (step_valid v (Bumped 0 0) enabled is.device.valid) (step_matches (plan_of_world w) v (Bumped 0 0) is.device.objects) refl counters
         (λ q inside. subst (λ k. (first_number k + finished_of u k) - 1 ≡ (first_number k + finished_of v k) - 1) (let zeroth : 0 ≡ q = omega (arith, inside, one) in zeroth)
-          (omega (arith, finished_bump w v 0 found.0 found.1, found.1.finished))))
+          (omega (arith, finished_bump w v 0 found.0 found.1, found.1.finished)))
+        (λ some. ap (λ ss. get_or (after_sets ss v.timelines) (length w.queues) 0) sets ∙ ap (λ k. get_or (set v.timelines 1 1) k 0) one
+          ∙ set_there 1 1 v.timelines (omega (arith, is.device.objects.timelines, one))))
 
 operation_lists : (s : State) (o : Option Operation) (q : ℕ) → (desk_after_operation (dropped s.desk q) o).lists ≡ s.desk.lists
 operation_lists s None q = refl
@@ -344,6 +349,8 @@ device_end w h v q n b o is one one_more first ending valid =
       named = is.named;
       finished = λ p inside. subst (λ k. counter (h ++ e ∷ []) k ≡ (first_number k + finished_of u k) - 1) (let zeroth : 0 ≡ p = omega (arith, inside, one) in zeroth)
         (omega (arith, counter_append 0 h e, one_more, ending.counter_is, ending.some, finished_bump w v n b first));
+      opening = λ some. ap (λ ss. get_or (after_sets ss v.timelines) (length w.queues) 0) ending.sets
+        ∙ set_elsewhere 0 (length w.queues) n v.timelines (λ e. omega (arith, e, one)) ∙ is.opening (omega (arith, first.finished, ending.some));
     }
 
 -- the end of an operation's batch

@@ -231,6 +231,7 @@ device_is w h e v words is none sizes = record {
   stands = stands_event w h e v (record v { words = words }) is.stands none refl refl;
   named = is.named;
   finished = λ q within. omega (arith, counter_append q h e, none q, is.finished q within);
+  opening = is.opening;
 }
 
 -- a call that is served

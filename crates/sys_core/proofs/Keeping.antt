@@ -31,7 +31,7 @@ use Rattle.sys_core.specs.Keeps.{Keeps, IsSystem, ready_by}
 use Rattle.sys_core.proofs.Calling.{consistent_call, consistent_awake}
 
 -- the machine's place of a thread, from the system's
-place_is : (w : World) (h : List Event) (p : Parts) (v : VkState) (t : ℕ) (s : Seat) →
+pub place_is : (w : World) (h : List Event) (p : Parts) (v : VkState) (t : ℕ) (s : Seat) →
     IsConsistent w h p.lists p.seats (map updates_in p.fences) (map queued p.held) v → slice_get p.seats t ≡ Some s → place_of (state_after w h).desk t ≡ place_from w h s
 place_is w h p v t s is at =
     ap (λ ts. elim (slice_get ts t) [ None ↦ opening_place | Some x ↦ x ]) is.seats_are.threads

@@ -13,3 +13,9 @@ pub mod Bumping
 pub mod Work
 pub mod Opening
 pub mod Keeping
+pub mod Undone
+pub mod Ahead
+pub mod AheadSteps
+pub mod NoQueue
+pub mod Whole
+pub mod Threading

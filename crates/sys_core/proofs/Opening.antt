@@ -70,6 +70,7 @@ device_open w world =
       named = ap (λ n. nat_lt 0 n && true) world.one_queue;
       finished = λ q within. subst (λ k. 0 ≡ (first_number k + finished_of (opened w) k) - 1) (let zeroth : 0 ≡ q = omega (arith, within, world.one_queue) in zeroth)
         (let one : length (lane_of (opened w) 0).batches ≡ 1 = ap (λ (l : Lane). length l.batches) lane in omega (arith, one));
+      opening = λ some. let one : length (lane_of (opened w) 0).batches ≡ 1 = ap (λ (l : Lane). length l.batches) lane in absurd (omega (arith, some, one));
     }
 
 const_at : {A : Type 0} (xs : List A) (q : ℕ) (x : Queued) → slice_get (map (λ _. no_queue) xs) q ≡ Some x → no_queue ≡ x

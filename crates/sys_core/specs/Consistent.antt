@@ -16,7 +16,7 @@ use Rattle.vk_port.specs.declared.commands.Batch.{Batch}
 use Rattle.vk_port.specs.declared.lanes.Running.{Running}
 use Rattle.vk_port.specs.Journal.{of_queue, first_number}
 use Rattle.vk_port.specs.Valid.{IsValid, Matches}
-use Rattle.vk_port.specs.VkState.{VkState, lane_of}
+use Rattle.vk_port.specs.VkState.{VkState, lane_of, counter_of}
 use Rattle.sys_core.specs.declared.parts.Armed.{Armed}
 use Rattle.sys_core.specs.declared.parts.Seat.{Seat}
 use Rattle.sys_core.specs.declared.parts.Signalled.{Signalled}
@@ -74,13 +74,15 @@ pub record AreHeld (w : World) (h : List Event) (v : VkState) (held : List Queue
 abbrev pub finished_of : VkState → ℕ → ℕ
 finished_of v q = length (of_queue q v.journal) - length (lane_of v q).batches
 
--- the device has the world's objects, and the history's completions are its finished batches
+-- the device has the world's objects, the history's completions are its finished batches, and the start-up
+-- timeline stands at 1 once the start-up batch has finished
 pub record IsDevice (w : World) (h : List Event) (v : VkState) : Type 0 where
   pub valid : IsValid v
   pub objects : Matches (plan_of_world w) v
   pub stands : Stands w h v
   pub named : list_all (λ b. nat_lt b.queue (length w.queues)) v.journal ≡ true
   pub finished : (q : ℕ) → q < length w.queues → counter h q ≡ (first_number q + finished_of v q) - 1
+  pub opening : 0 < finished_of v 0 → counter_of v (length w.queues) ≡ 1
 
 -- what the system keeps at every step
 pub record IsConsistent (w : World) (h : List Event) (lists : List Listed) (seats : List Seat) (fences : List (List ℕ)) (held : List Queued) (v : VkState) : Type 0 where

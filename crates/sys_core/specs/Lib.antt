@@ -8,3 +8,4 @@ pub mod FaultOf
 pub mod Serving
 pub mod Work
 pub mod Keeps
+pub mod Ahead

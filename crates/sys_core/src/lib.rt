@@ -5,6 +5,7 @@ mod faults;
 mod lowering;
 mod parts;
 mod serve;
+mod threads;
 
 pub use faults::SysFault;
 pub use lowering::{batch_of, plan_of};

@@ -1,0 +1,233 @@
+-- What a call, a submission and the first step of the device leave of the words ahead.
+use Rattle.std.proofs.Common.{ℕ, ◌≡◌, ◌<◌, ◌+◌, ◌-◌, ◌∙◌, sym, ap, subst, refl, arith, List, [], ◌∷◌, ◌++◌, length, drop, Some, None, Option, Bool, true, false, append-nil, inl, inr, slice_get, get_or}
+use Rattle.std.specs.Prelude.{◌==◌, if◌then◌else◌}
+use Rattle.std.proofs.lemmas.Bool.{cases_Bool}
+use Rattle.std.proofs.lemmas.List.{drop-drop}
+use Rattle.std.proofs.lemmas.Option.{slice_get_within, get_or_from_slice_get, slice_get-get_or}
+use Rattle.dx_base.specs.Lists.{changed_at}
+use Rattle.dx_base.specs.declared.ids.ThreadId.{ThreadId}
+use Rattle.dx_base.specs.declared.ids.QueueId.{QueueId}
+use Rattle.dx_base.specs.declared.hresult.Hresult.{Hresult}
+use Rattle.dx_base.proofs.Lists.{get_or_changed}
+use Rattle.d3d_machine.specs.declared.world.World.{World}
+use Rattle.d3d_machine.specs.declared.calls.Call.{Call}
+use Rattle.d3d_machine.specs.declared.calls.Call.TheVariants as call
+use Rattle.d3d_machine.specs.declared.calls.Reply.{Reply}
+use Rattle.d3d_machine.specs.declared.events.Listed.{Listed}
+use Rattle.d3d_machine.specs.declared.events.Operation.{Operation}
+use Rattle.d3d_machine.specs.declared.events.Event.{Event}
+use Rattle.d3d_machine.specs.declared.events.Event.TheVariants as event
+use Rattle.d3d_machine.specs.World.{IsWorld}
+use Rattle.d3d_machine.specs.State.{State, first_state}
+use Rattle.d3d_machine.specs.Replies.{refusal}
+use Rattle.d3d_machine.specs.Effects.{memory_or, written, memory_after, memory_after_operation}
+use Rattle.d3d_machine.specs.Play.{IsRunButWords, state_after}
+use Rattle.d3d_machine.specs.Operations.{operations, counter}
+use Rattle.d3d_machine.proofs.Operations.{operations_append, counter_append}
+use Rattle.d3d_machine.proofs.Runs.{state_after_append}
+use Rattle.vk_port.specs.declared.commands.Batch.{Batch}
+use Rattle.vk_port.specs.declared.commands.VkCommand.{VkCommand}
+use Rattle.vk_port.specs.declared.lanes.Lane.{Lane}
+use Rattle.vk_port.specs.declared.lanes.Running.{Running}
+use Rattle.vk_port.specs.declared.steps.Stepped.{Stepped}
+use Rattle.vk_port.specs.declared.steps.Stepped.TheVariants.{Passed, Ran, Bumped, Free}
+use Rattle.vk_port.specs.After.{after_found, command_at, found_commands, place_of, with_done, lane_after_run, lane_after_pass, lane_after_bump, lane_after_submit, started, after_step, after_submit}
+use Rattle.vk_port.specs.Enabled.{passes, commands, bumps, enabled_steps}
+use Rattle.vk_port.specs.Journal.{of_queue, number_after}
+use Rattle.vk_port.specs.Meaning.{IsEnabled, IsBump}
+use Rattle.vk_port.specs.Valid.{IsValid}
+use Rattle.vk_port.specs.VkState.{VkState, lane_of, no_lane}
+use Rattle.vk_port.proofs.Falls.{valid_place}
+use Rattle.vk_port.proofs.Enabled.{enabled_means}
+use Rattle.sys_core.specs.Parts.{desk_of, device_by}
+use Rattle.sys_core.specs.Lowering.{lowered_commands}
+use Rattle.sys_core.specs.Steps.{submitted_of, step_events}
+use Rattle.sys_core.specs.Consistent.{IsDevice}
+use Rattle.sys_core.specs.Ahead.{run_commands, batches_undone, memory_ahead, IsAhead, IsQuiet, is_good_access}
+use Rattle.sys_core.proofs.Standing.{of_queue_append}
+use Rattle.sys_core.proofs.Calling.{refusal_is}
+use Rattle.sys_core.proofs.Holding.{drop_here}
+use Rattle.sys_core.proofs.Undone.{run_append, lowered_is_effect, ahead_first_one, undone_append, all_unmarked, undone_behind, IsFirstIn, first_ran}
+use Rattle.sys_core.proofs.Ahead.{device_within, called_now, ahead_event, IsIdle, quiet_is_idle, idle_words}
+
+-- a call that is no host access, or is refused, writes nothing
+stays : (r : Option Hresult) (c : Call) → is_good_access r c ≡ false → (m : List (List ℕ)) → memory_or r (written c m) m ≡ m
+stays (Some e) c none m = refl
+stays None (call.Recording l what) none m = refl
+stays None (call.Close l) none m = refl
+stays None (call.Reset l a) none m = refl
+stays None (call.Execute q ls) none m = refl
+stays None (call.Signal q f v) none m = refl
+stays None (call.HostWait f v) none m = refl
+stays None (call.Write b offset ws) none m = absurd (cc)
+stays None (call.Read b offset bytes) none m = refl
+
+-- a call that is served: where it is a host access, no called operation is incomplete
+pub ahead_call : (w : World) (h : List Event) (lists : List Listed) (v : VkState) (t : ThreadId) (c : Call) (r : Reply) →
+    IsRunButWords w h → IsDevice w h v → 0 < length w.queues → lists ≡ (state_after w h).desk.lists →
+    ((is_good_access (refusal w (state_after w h).desk c) c ≡ true) → IsQuiet (state_after w h)) → IsAhead w h v → IsAhead w (h ++ event.Call t c r ∷ []) (device_by w lists v c)
+ahead_call w h lists v t c r run device some are quiet is =
+    let m : List (List ℕ) = (state_after w h).memory in
+    let no : Option Hresult = refusal w (state_after w h).desk c in
+    let words : List (List ℕ) = memory_or (refusal w (desk_of lists) c) (written c v.words) v.words in
+    let us : List VkCommand = batches_undone (lane_of v 0).batches in
+    let held : List Operation = drop (submitted_of v 0) (operations w h 0) in
+    let called : List Operation = drop (counter h 0) (operations w h 0) in
+    let alike : words ≡ memory_or no (written c v.words) v.words =
+      ap (λ o. memory_or o (written c v.words) v.words) (refusal_is w (state_after w h).desk lists c are) in
+    ahead_event w h (event.Call t c r) v words (device_within w h v device some) refl
+      (elim (cases_Bool (is_good_access no c)) as (λ _. memory_ahead held (run_commands us words) ≡ memory_ahead called (memory_or no (written c m) m)) [
+        inl access ↦
+          let idle : IsIdle w h v = quiet_is_idle w h v run device some (quiet access) in
+          ap (λ cs. memory_ahead held (run_commands cs words)) idle.undone ∙ ap (λ os. memory_ahead os words) idle.held
+          ∙ alike ∙ ap (λ ws. memory_or no (written c ws) ws) (idle_words w h v is idle)
+          ∙ ap (λ os. memory_ahead os (memory_or no (written c m) m)) (sym idle.called)
+      | inr none ↦
+          ap (λ ws. memory_ahead held (run_commands us ws)) (alike ∙ stays no c none v.words)
+          ∙ is.ahead ∙ ap (memory_ahead called) (sym (stays no c none m)) ])
+
+number_after_last : (n : ℕ) (bs : List Batch) (b : Batch) → number_after n (bs ++ b ∷ []) ≡ b.number + 1
+number_after_last n [] b = refl
+number_after_last n (x ∷ bs) b = number_after_last (x.number + 1) bs b
+
+one_more_submitted : (v : VkState) (b : Batch) → b.queue ≡ 0 → b.number ≡ submitted_of v 0 + 1 → submitted_of (after_submit v b) 0 ≡ submitted_of v 0 + 1
+one_more_submitted v b queue number =
+    let all : of_queue 0 (v.journal ++ b ∷ []) ≡ of_queue 0 v.journal ++ b ∷ [] =
+      of_queue_append 0 v.journal b ∙ ap (λ q. of_queue 0 v.journal ++ (if (q == 0) then b ∷ [] else [])) queue in
+    ap (λ bs. number_after 0 bs - 1) all ∙ omega (arith, number_after_last 0 (of_queue 0 v.journal) b, number)
+
+-- the submission of the next operation
+pub ahead_submit : (w : World) (h : List Event) (v : VkState) (b : Batch) (o : Operation) → 0 < length v.lanes → slice_get (operations w h 0) (submitted_of v 0) ≡ Some o →
+    b.queue ≡ 0 → b.number ≡ submitted_of v 0 + 1 → b.commands ≡ lowered_commands o → IsAhead w h v → IsAhead w h (after_submit v b)
+ahead_submit w h v b o some next queue number cs is =
+    let os : List Operation = operations w h 0 in
+    let s : ℕ = submitted_of v 0 in
+    let rs : List Running = (lane_of v 0).batches in
+    let us : List VkCommand = batches_undone rs in
+    let x : List (List ℕ) = run_commands us v.words in
+    let lane : lane_of (after_submit v b) 0 ≡ lane_after_submit b (lane_of v 0) =
+      ap (λ q. get_or (changed_at (lane_after_submit b) q v.lanes) 0 no_lane) queue ∙ get_or_changed (lane_after_submit b) v.lanes 0 no_lane some in
+    let todo : batches_undone (lane_of (after_submit v b) 0).batches ≡ us ++ lowered_commands o =
+      ap (λ (l : Lane). batches_undone l.batches) lane ∙ undone_append rs (started b) ∙ ap (λ es. us ++ es) (all_unmarked b.commands ∙ cs) in
+    let words : run_commands (batches_undone (lane_of (after_submit v b) 0).batches) v.words ≡ memory_after_operation x (Some o) =
+      ap (λ es. run_commands es v.words) todo ∙ run_append us (lowered_commands o) v.words ∙ lowered_is_effect o x in
+    record {
+      ahead = ap (λ k. memory_ahead (drop k os) (run_commands (batches_undone (lane_of (after_submit v b) 0).batches) v.words)) (one_more_submitted v b queue number)
+        ∙ ap (memory_ahead (drop (s + 1) os)) words ∙ ap (λ ys. memory_ahead ys x) (sym (drop_here s os o next)) ∙ is.ahead;
+    }
+
+-- the completion of the oldest called operation
+pub ahead_complete : (w : World) (h : List Event) (v : VkState) (q : QueueId) → q.0 ≡ 0 → IsRunButWords w h → 0 < length w.queues → IsAhead w h v → IsAhead w (h ++ event.Queue q ∷ []) v
+ahead_complete w h v q first run some is =
+    let e : Event = event.Queue q in
+    let os : List Operation = operations w h 0 in
+    let now : List Operation = operations w (h ++ e ∷ []) 0 in
+    let c : ℕ = counter h 0 in
+    let s : State = state_after w h in
+    let x : List (List ℕ) = run_commands (batches_undone (lane_of v 0).batches) v.words in
+    let all : now ≡ os = operations_append w (first_state w) 0 h e ∙ append-nil os in
+    let count : counter (h ++ e ∷ []) 0 ≡ c + 1 = counter_append 0 h e ∙ ap (λ p. c + (if (p == 0) then 1 else 0)) first in
+    let memory : (state_after w (h ++ e ∷ [])).memory ≡ memory_after_operation s.memory (slice_get (drop c os) 0) =
+      ap (λ (st : State). st.memory) (state_after_append w h e) ∙ ap (λ p. memory_after w s (event.Queue (record { 0 = p }))) first
+      ∙ ap (λ ys. memory_after_operation s.memory (slice_get ys 0)) (called_now w h run some) in
+    record {
+      ahead = ap (λ ys. memory_ahead (drop (submitted_of v 0) ys) x) all ∙ is.ahead ∙ ahead_first_one (drop c os) s.memory
+        ∙ ap (λ ys. memory_ahead ys (memory_after_operation s.memory (slice_get (drop c os) 0))) (drop-drop 1 c os)
+        ∙ ap (memory_ahead (drop (c + 1) os)) (sym memory)
+        ∙ ap (λ k. memory_ahead (drop k os) (state_after w (h ++ e ∷ [])).memory) (sym count)
+        ∙ ap (λ ys. memory_ahead (drop (counter (h ++ e ∷ []) 0) ys) (state_after w (h ++ e ∷ [])).memory) (sym all);
+    }
+
+-- a batch passes
+pub ahead_pass : (w : World) (h : List Event) (v : VkState) (n : ℕ) → 0 < length v.lanes → IsAhead w h v → IsAhead w h (after_step v (Passed 0 n))
+ahead_pass w h v n some is = record {
+  ahead = ap (λ (l : Lane). memory_ahead (drop (submitted_of v 0) (operations w h 0)) (run_commands (batches_undone l.batches) v.words))
+      (get_or_changed lane_after_pass v.lanes 0 no_lane some) ∙ is.ahead;
+}
+
+-- the first batch ends, of which all commands are done
+pub ahead_end : (w : World) (h : List Event) (v : VkState) (n : ℕ) → 0 < length v.lanes → IsBump v 0 n → IsAhead w h v → IsAhead w h (after_step v (Bumped 0 n))
+ahead_end w h v n some bump is =
+    let lane : lane_of v 0 ≡ bump.lane = get_or_from_slice_get v.lanes 0 bump.lane no_lane bump.there in
+    let head : slice_get (lane_of v 0).batches 0 ≡ Some bump.first = ap (λ (l : Lane). slice_get l.batches 0) lane ∙ bump.is_first in
+    record {
+      ahead = ap (λ (l : Lane). memory_ahead (drop (submitted_of v 0) (operations w h 0)) (run_commands (batches_undone l.batches) v.words))
+          (get_or_changed lane_after_bump v.lanes 0 no_lane some)
+        ∙ ap (λ cs. memory_ahead (drop (submitted_of v 0) (operations w h 0)) (run_commands cs v.words)) (sym (undone_behind (lane_of v 0).batches bump.first head bump.done))
+        ∙ is.ahead;
+    }
+
+-- the first command that is not done runs
+pub ahead_ran : (w : World) (h : List Event) (v : VkState) (first : IsFirstIn 0 (lane_of v 0).passed (lane_of v 0).batches) → IsValid v → 0 < length v.lanes → IsAhead w h v →
+    IsAhead w h (after_step v (Ran 0 first.running.batch.number (1 + first.index)))
+ahead_ran w h v first valid some is =
+    let n : ℕ = first.running.batch.number in
+    let k : ℕ = 1 + first.index in
+    let rs : List Running = (lane_of v 0).batches in
+    let held : List Operation = drop (submitted_of v 0) (operations w h 0) in
+    let words : List (List ℕ) = after_found (command_at n k rs) v.words in
+    let place : place_of n rs ≡ first.place = valid_place v valid 0 (lane_of v 0) (slice_get-get_or v.lanes 0 no_lane some) first.place first.running first.there in
+    let index : k - 1 ≡ first.index = omega arith in
+    let found : command_at n k rs ≡ Some first.command =
+      ap (λ i. slice_get (found_commands (slice_get rs i)) (k - 1)) place ∙ ap (λ o. slice_get (found_commands o) (k - 1)) first.there
+      ∙ ap (slice_get first.running.batch.commands) index ∙ first.is_command in
+    record {
+      ahead = ap (λ (l : Lane). memory_ahead held (run_commands (batches_undone l.batches) words)) (get_or_changed (lane_after_run n k) v.lanes 0 no_lane some)
+        ∙ ap (λ i. memory_ahead held (run_commands (batches_undone (changed_at (with_done k) i rs)) words)) place
+        ∙ ap (λ o. memory_ahead held (run_commands (batches_undone (changed_at (with_done k) first.place rs)) (after_found o v.words))) found
+        ∙ ap (λ cs. memory_ahead held (run_commands cs v.words)) (sym first.rest) ∙ is.ahead;
+    }
+
+one_lane : (lanes : List Lane) → length lanes ≡ 1 → lanes ≡ get_or lanes 0 no_lane ∷ []
+one_lane [] one = absurd (omega (arith, one))
+one_lane (x ∷ []) one = refl
+one_lane (x ∷ y ∷ lanes) one = absurd (omega (arith, one))
+
+-- where there is one queue, a fact of queue 0 is one of each queue
+pub at_first : (P : ℕ → Type 0) (q n : ℕ) → q < n → n ≡ 1 → P 0 → P q
+at_first P q n less one here = subst P (let e : 0 ≡ q = omega arith in e) here
+
+no_event : (w : World) (h : List Event) (u : VkState) → IsAhead w h u → IsAhead w (h ++ []) u
+no_event w h u is = subst (λ hs. IsAhead w hs u) (sym (append-nil h)) is
+
+after_bump : (w : World) (h : List Event) (v : VkState) (n : ℕ) → IsRunButWords w h → 0 < length w.queues → 0 < length v.lanes → IsAhead w h v →
+    IsBump v 0 n → IsAhead w (h ++ step_events (Bumped 0 n)) (after_step v (Bumped 0 n))
+after_bump w h v n run some lanes is bump =
+    let u : VkState = after_step v (Bumped 0 n) in
+    let ended : IsAhead w h u = ahead_end w h v n lanes bump is in
+    by_number (n == 0) u ended
+  where
+    by_number : (t : Bool) (u : VkState) → IsAhead w h u → IsAhead w (h ++ (if t then [] else event.Queue (record { 0 = 0 }) ∷ [])) u
+    by_number true u is = no_event w h u is
+    by_number false u is = ahead_complete w h u (record { 0 = 0 }) refl run some is
+
+step_kind : (w : World) (h : List Event) (v : VkState) (s : Stepped) → IsRunButWords w h → IsValid v → 0 < length w.queues → length v.lanes ≡ 1 → IsAhead w h v →
+    IsEnabled v s → slice_get (enabled_steps v) 0 ≡ Some s → IsAhead w (h ++ step_events s) (after_step v s)
+step_kind w h v (Passed q n) run valid some one is e at =
+    at_first (λ p. IsAhead w (h ++ step_events (Passed p n)) (after_step v (Passed p n))) q (length v.lanes) (slice_get_within v.lanes q e.lane e.there) one
+      (no_event w h (after_step v (Passed 0 n)) (ahead_pass w h v n (omega arith) is))
+step_kind w h v (Ran q n k) run valid some one is e at =
+    let first : (f : IsFirstIn 0 (lane_of v 0).passed (lane_of v 0).batches) × (Ran 0 f.running.batch.number (1 + f.index) ≡ Ran q n k) =
+      first_ran v.timelines (lane_of v 0) q n k
+        (ap (λ ls. slice_get (passes v.timelines 0 ls ++ (commands 0 ls ++ bumps 0 ls)) 0) (sym (one_lane v.lanes one)) ∙ at) in
+    subst (λ s. IsAhead w (h ++ step_events s) (after_step v s)) first.1
+      (no_event w h (after_step v (Ran 0 first.0.running.batch.number (1 + first.0.index))) (ahead_ran w h v first.0 valid (omega arith) is))
+step_kind w h v (Bumped q n) run valid some one is e at =
+    at_first (λ p. IsBump v p n → IsAhead w (h ++ step_events (Bumped p n)) (after_step v (Bumped p n))) q (length v.lanes) (slice_get_within v.lanes q e.lane e.there) one
+      (after_bump w h v n run some (omega arith) is) e
+step_kind w h v Free run valid some one is e at = absurd e
+
+-- a step that can be taken is one of a queue
+some_queue : (v : VkState) (s : Stepped) → IsEnabled v s → 0 < length v.lanes
+some_queue v (Passed q n) e = let within : q < length v.lanes = slice_get_within v.lanes q e.lane e.there in omega arith
+some_queue v (Ran q n k) e = let within : q < length v.lanes = slice_get_within v.lanes q e.lane e.there in omega arith
+some_queue v (Bumped q n) e = let within : q < length v.lanes = slice_get_within v.lanes q e.lane e.there in omega arith
+some_queue v Free e = absurd e
+
+-- the first step of the device
+pub ahead_step : (w : World) (h : List Event) (v : VkState) (s : Stepped) → IsWorld w → IsRunButWords w h → IsDevice w h v →
+    slice_get (enabled_steps v) 0 ≡ Some s → IsAhead w h v → IsAhead w (h ++ step_events s) (after_step v s)
+ahead_step w h v s world run device at is =
+    let enabled : IsEnabled v s = enabled_means v 0 s at in
+    let some : 0 < length w.queues = omega (arith, device.objects.lanes, some_queue v s enabled) in
+    step_kind w h v s run device.valid some (omega (arith, device.objects.lanes, world.one_queue, some)) is enabled at

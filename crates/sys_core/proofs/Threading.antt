@@ -1,0 +1,110 @@
+-- What a thread's step needs, and what its event is.
+use Rattle.std.proofs.Common.{ℕ, zero, suc, ◌≡◌, ◌<◌, ◌≤◌, ◌+◌, ◌-◌, ◌∙◌, sym, ap, subst, refl, arith, List, [], ◌∷◌, ◌++◌, length, map, Some, None, Option, Bool, true, false, get_or, set, cond, ◌⊎◌, inl, inr}
+use Rattle.std.proofs.lemmas.Bool.{ltb-true}
+use Rattle.std.proofs.lemmas.List.{length-map}
+use Rattle.std.proofs.lemmas.Option.{slice_get_within, slice_get_past, slice_get-map, slice_get_cases}
+use Rattle.std.specs.List.{slice_get}
+use Rattle.std.specs.Option.{option_map}
+use Rattle.std.specs.Prelude.{nat_lt}
+use Rattle.dx_base.specs.Lists.{changed_at}
+use Rattle.dx_base.specs.declared.ids.ThreadId.{ThreadId}
+use Rattle.dx_base.proofs.Lists.{set_is_changed}
+use Rattle.d3d_machine.specs.declared.world.World.{World}
+use Rattle.d3d_machine.specs.declared.calls.Call.{Call}
+use Rattle.d3d_machine.specs.declared.events.Event.{Event}
+use Rattle.d3d_machine.specs.declared.events.Event.TheVariants as event
+use Rattle.d3d_machine.specs.World.{is_named}
+use Rattle.d3d_machine.specs.State.{Place, place_of, opening_place, next_call, script_of}
+use Rattle.d3d_machine.specs.declared.calls.Reply.{Reply}
+use Rattle.d3d_machine.specs.Replies.{refusal, reply_or, good_reply, reply_of}
+use Rattle.d3d_machine.specs.Effects.{memory_or, written}
+use Rattle.d3d_machine.specs.Play.{state_after}
+use Rattle.d3d_machine.proofs.Shape.{run_has_shape}
+use Rattle.d3d_machine.proofs.Named.{next_is_named}
+use Rattle.vk_port.specs.declared.plan.DevicePlan.{DevicePlan}
+use Rattle.vk_port.specs.VkState.{VkState}
+use Rattle.sys_core.specs.declared.parts.Armed.{Armed}
+use Rattle.sys_core.specs.declared.parts.Seat.{Seat}
+use Rattle.sys_core.specs.declared.parts.Parts.{Parts}
+use Rattle.sys_core.specs.Parts.{queued, updates_in, reply_by, device_by, seat_after}
+use Rattle.sys_core.specs.Steps.{is_ready_thread, is_ready_place, thread_event, place_event, call_event, seen_state, after_event}
+use Rattle.sys_core.specs.Consistent.{place_from, waiting_from}
+use Rattle.sys_core.specs.Serving.{HasBuffers}
+use Rattle.sys_core.specs.Keeps.{Keeps, ready_by}
+use Rattle.sys_core.proofs.Buffers.{has_buffers}
+use Rattle.sys_core.proofs.Calling.{refusal_is}
+use Rattle.sys_core.proofs.Keeping.{place_is, ready_is}
+
+-- a thread's place written after a call
+pub seat_written : (fences : List (List ℕ)) (c : Call) (seats : List Seat) (t : ℕ) (s y : Seat) → slice_get seats t ≡ Some s → y ≡ seat_after fences c s →
+    set seats t y ≡ changed_at (seat_after fences c) t seats
+seat_written fences c seats t s y at is = ap (set seats t) is ∙ set_is_changed (seat_after fences c) seats t s at
+
+module _ {D : Type 0} (state : D → VkState) (plan_of : D → Option DevicePlan) (w : World) (h : List Event) (p : Parts) (d : D) (keeps : Keeps state plan_of w h p d) where
+  seats_length : length p.seats ≡ length w.scripts
+  seats_length =
+      sym (length-map p.seats (place_from w h)) ∙ ap length (sym keeps.consistent.seats_are.threads) ∙ (run_has_shape w h).desk.threads
+
+  no_thread : (o : Option (List Call)) (x : Option Place) → o ≡ None → x ≡ None →
+      is_ready_place (elim o [ None ↦ [] | Some cs ↦ cs ]) (elim x [ None ↦ opening_place | Some y ↦ y ]) ≡ true → ⊥
+  no_thread None None gone none ready = absurd (cc)
+  no_thread None (Some y) gone none ready = absurd (cc)
+  no_thread (Some cs) x gone none ready = absurd (cc)
+
+  threads_length : length (state_after w h).desk.threads ≡ length w.scripts
+  threads_length = (run_has_shape w h).desk.threads
+
+  -- a thread whose step is enabled is one of the world
+  pub thread_there : (t : ℕ) → is_ready_thread w h t ≡ true → (t < length p.seats) × (t < length w.scripts)
+  thread_there t ready = elim (slice_get_cases w.scripts t).1 [
+      inl found ↦ (omega (arith, found.1, seats_length), found.1)
+    | inr past ↦ absurd (no_thread (slice_get w.scripts t) (slice_get (state_after w h).desk.threads t) past.1
+        (slice_get_past (state_after w h).desk.threads t (omega (arith, past.0, threads_length))) ready) ]
+
+  -- a thread that does not wait has a call left
+  pub call_left : (t : ℕ) (s : Seat) → slice_get p.seats t ≡ Some s → s.waits ≡ None → is_ready_thread w h t ≡ true → s.made < length (script_of w t)
+  call_left t s at waits ready =
+      let seat : ℕ → Option Armed → Seat = λ m o. record { made = m; waits = o } in
+      ltb-true s.made (length (script_of w t))
+        (sym (ap (λ o. ready_by (script_of w t) (map updates_in p.fences) (seat s.made o)) waits) ∙ ready_is state plan_of w h p d t s keeps at ∙ ready)
+
+  -- the machine's place of a thread that does not wait
+  pub next_is : (t : ℕ) (s : Seat) (c : Call) → slice_get p.seats t ≡ Some s → slice_get (script_of w t) s.made ≡ Some c → next_call w (state_after w h).desk t ≡ Some c
+  next_is t s c at next = ap (λ (x : Place). slice_get (script_of w t) x.made) (place_is w h p (state d) t s keeps.consistent at) ∙ next
+
+  pub waits_is : (t : ℕ) (s : Seat) → slice_get p.seats t ≡ Some s → (place_of (state_after w h).desk t).waits ≡ option_map (waiting_from w h) s.waits
+  waits_is t s at = ap (λ (x : Place). x.waits) (place_is w h p (state d) t s keeps.consistent at)
+
+  pub buffers_are : HasBuffers w (state d)
+  buffers_are = has_buffers w (state d) keeps.consistent.world keeps.consistent.device.objects
+
+  pub lists_count : length p.lists ≡ length w.lists
+  lists_count = ap length keeps.consistent.lists_are ∙ (run_has_shape w h).desk.lists
+
+  pub queues_count : length p.held ≡ length w.queues
+  queues_count = sym (length-map p.held queued) ∙ keeps.consistent.held_are.count
+
+  pub named_is : (t : ℕ) (s : Seat) (c : Call) → slice_get p.seats t ≡ Some s → slice_get (script_of w t) s.made ≡ Some c → is_named w c ≡ true
+  named_is t s c at next = next_is_named w (state_after w h).desk t c keeps.consistent.world (next_is t s c at next)
+
+  -- the event of a thread that waits
+  pub awake_event : (t : ThreadId) (s : Seat) (a : Armed) → slice_get p.seats t.0 ≡ Some s → s.waits ≡ Some a → event.Awake t ≡ thread_event w h (state d) t.0
+  awake_event t s a at waits =
+      sym (ap (place_event w (seen_state w h (state d)) t.0) (waits_is t.0 s at ∙ ap (option_map (waiting_from w h)) waits))
+
+  reply_seen : (c : Call) → reply_by w p.lists (state d) c ≡ reply_of w (seen_state w h (state d)) c
+  reply_seen c = ap (λ r. reply_or r (good_reply (state d).words c)) (refusal_is w (state_after w h).desk p.lists c keeps.consistent.lists_are)
+
+  -- the event of a thread that makes its next call
+  pub call_event_is : (t : ThreadId) (s : Seat) (c : Call) → slice_get p.seats t.0 ≡ Some s → s.waits ≡ None → slice_get (script_of w t.0) s.made ≡ Some c →
+      event.Call t c (reply_by w p.lists (state d) c) ≡ thread_event w h (state d) t.0
+  call_event_is t s c at waits next =
+      ap (event.Call t c) (reply_seen c)
+      ∙ sym (ap (place_event w (seen_state w h (state d)) t.0) (waits_is t.0 s at ∙ ap (option_map (waiting_from w h)) waits)
+        ∙ ap (call_event w (seen_state w h (state d)) t.0) (next_is t.0 s c at next))
+
+  -- the device after a call
+  pub device_seen : (c : Call) (t : ThreadId) (r : Reply) → device_by w p.lists (state d) c ≡ after_event w h (state d) (event.Call t c r)
+  device_seen c t r =
+      let vs : List (List ℕ) → VkState = λ ws. record (state d) { words = ws } in
+      ap (λ o. vs (memory_or o (written c (state d).words) (state d).words)) (refusal_is w (state_after w h).desk p.lists c keeps.consistent.lists_are)

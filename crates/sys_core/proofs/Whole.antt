@@ -1,0 +1,210 @@
+-- Where host accesses come only when no called operation is incomplete, the history is a run with its words.
+use Rattle.std.proofs.Common.{ℕ, zero, suc, ◌≡◌, ◌<◌, ◌+◌, ◌∙◌, sym, ap, subst, refl, List, [], ◌∷◌, ◌++◌, length, Some, None, Option, Bool, true, false, append-nil, slice_get, inl, inr, arith, ◌≤◌}
+use Rattle.std.proofs.lemmas.Bool.{cases_lt}
+use Rattle.std.specs.Prelude.{◌==◌, if◌then◌else◌}
+use Rattle.dx_base.specs.declared.ids.ThreadId.{ThreadId}
+use Rattle.dx_base.specs.declared.hresult.Hresult.{Hresult}
+use Rattle.d3d_machine.specs.declared.world.World.{World}
+use Rattle.d3d_machine.specs.declared.calls.Call.{Call}
+use Rattle.d3d_machine.specs.declared.calls.Call.TheVariants as call
+use Rattle.d3d_machine.specs.declared.calls.Reply.{Reply}
+use Rattle.d3d_machine.specs.declared.events.Listed.{Listed}
+use Rattle.d3d_machine.specs.declared.events.Operation.{Operation}
+use Rattle.d3d_machine.specs.declared.events.Event.{Event}
+use Rattle.d3d_machine.specs.declared.events.Event.TheVariants as event
+use Rattle.d3d_machine.specs.World.{IsWorld}
+use Rattle.d3d_machine.specs.State.{Desk, State, first_state, place_of, next_call, called_of}
+use Rattle.d3d_machine.specs.Replies.{refusal, reply_or, good_reply, reply_of}
+use Rattle.d3d_machine.specs.Effects.{after, after_all, memory_or, written}
+use Rattle.d3d_machine.specs.Play.{May, Plays, SameReply, SameButWords, IsRun, IsRunButWords, state_after}
+use Rattle.d3d_machine.specs.Operations.{operations, counter}
+use Rattle.d3d_machine.proofs.Shape.{run_has_shape}
+use Rattle.d3d_machine.proofs.Runs.{plays_append, run_append}
+use Rattle.vk_port.specs.declared.commands.Batch.{Batch}
+use Rattle.vk_port.specs.declared.steps.Stepped.{Stepped}
+use Rattle.vk_port.specs.declared.steps.Stepped.TheVariants.{Passed, Ran, Bumped, Free}
+use Rattle.vk_port.specs.After.{after_step, after_submit}
+use Rattle.vk_port.specs.Enabled.{enabled_steps}
+use Rattle.vk_port.specs.VkState.{VkState}
+use Rattle.vk_port.specs.VkState as vulkan
+use Rattle.sys_core.specs.Parts.{desk_of, reply_by, device_by}
+use Rattle.sys_core.specs.Lowering.{plan_of_world, startup, lowered_commands}
+use Rattle.sys_core.specs.Steps.{submitted_of, step_events}
+use Rattle.sys_core.specs.Consistent.{IsDevice}
+use Rattle.sys_core.specs.Ahead.{IsAhead, IsQuiet, is_good_access, is_host_access, AreQuietFrom, AreHostAccessesQuiet, IsWhole}
+use Rattle.sys_core.proofs.Calling.{refusal_is, replies_alike}
+use Rattle.sys_core.proofs.Buffers.{same_sizes}
+use Rattle.sys_core.proofs.Ahead.{device_within, called_now, drop_past, ahead_first, ahead_awake, idle_words}
+use Rattle.sys_core.proofs.NoQueue.{no_queue_event, no_queue_idle, quiet_words}
+use Rattle.sys_core.proofs.AheadSteps.{ahead_call, ahead_submit, ahead_step, at_first}
+
+quiet_from_append : (w : World) (s : State) (h : List Event) (e : Event) → AreQuietFrom w s h → ((is_host_access w (after_all w s h) e ≡ true) → IsQuiet (after_all w s h)) →
+    AreQuietFrom w s (h ++ e ∷ [])
+quiet_from_append w s [] e are last = (last, tt)
+quiet_from_append w s (d ∷ h) e are last = (are.0, quiet_from_append w (after w s d) h e are.1 last)
+
+quiet_from_front : (w : World) (s : State) (h : List Event) (e : Event) → AreQuietFrom w s (h ++ e ∷ []) → AreQuietFrom w s h
+quiet_from_front w s [] e are = tt
+quiet_from_front w s (d ∷ h) e are = (are.0, quiet_from_front w (after w s d) h e are.1)
+
+quiet_from_last : (w : World) (s : State) (h : List Event) (e : Event) → AreQuietFrom w s (h ++ e ∷ []) → (is_host_access w (after_all w s h) e ≡ true) → IsQuiet (after_all w s h)
+quiet_from_last w s [] e are = are.0
+quiet_from_last w s (d ∷ h) e are = quiet_from_last w (after w s d) h e are.1
+
+-- host accesses stay quiet by an event that is none, or comes where no called operation is incomplete
+pub quiet_append : (w : World) (h : List Event) (e : Event) → AreHostAccessesQuiet w h → ((is_host_access w (state_after w h) e ≡ true) → IsQuiet (state_after w h)) →
+    AreHostAccessesQuiet w (h ++ e ∷ [])
+quiet_append w h e are last = quiet_from_append w (first_state w) h e are last
+
+-- host accesses were quiet before the last event
+pub quiet_front : (w : World) (h : List Event) (e : Event) → AreHostAccessesQuiet w (h ++ e ∷ []) → AreHostAccessesQuiet w h
+quiet_front w h e are = quiet_from_front w (first_state w) h e are
+
+-- the last event, where it is a host access, came where no called operation was incomplete
+pub quiet_last : (w : World) (h : List Event) (e : Event) → AreHostAccessesQuiet w (h ++ e ∷ []) → (is_host_access w (state_after w h) e ≡ true) → IsQuiet (state_after w h)
+quiet_last w h e are = quiet_from_last w (first_state w) h e are
+
+called_past : (d : Desk) (q : ℕ) → length d.called ≤ q → called_of d q ≡ []
+called_past d q past = ap (λ (o : Option (List Operation)). elim o [ None ↦ [] | Some os ↦ os ]) (none_past d.called q past)
+  where
+    none_past : (called : List (List Operation)) (q : ℕ) → length called ≤ q → slice_get called q ≡ None
+    none_past [] q past = refl
+    none_past (os ∷ called) zero past = absurd (omega (arith, past))
+    none_past (os ∷ called) (suc q) past = none_past called q (omega (arith, past))
+
+-- where as many operations completed as were called, no called operation is incomplete
+pub quiet_when : (w : World) (h : List Event) → IsWorld w → IsRunButWords w h → length (operations w h 0) ≤ counter h 0 → IsQuiet (state_after w h)
+quiet_when w h world run all = record {
+  none_called = λ q. elim (cases_lt q (length w.queues)) [
+      inl within ↦
+        let one : length w.queues ≡ 1 = omega (arith, within, world.one_queue) in
+        at_first (λ p. called_of (state_after w h).desk p ≡ []) q (length w.queues) within one
+          (called_now w h run (omega (arith, one)) ∙ drop_past (counter h 0) (operations w h 0) all)
+    | inr past ↦ called_past (state_after w h).desk q (omega (arith, (run_has_shape w h).desk.called, past)) ];
+}
+
+-- the last event of a play could come
+plays_last : (Same : Reply → Reply → Type 0) (w : World) (s : State) (h : List Event) (e : Event) → Plays Same w s (h ++ e ∷ []) → May Same w (after_all w s h) e
+plays_last Same w s [] e plays = plays.0
+plays_last Same w s (d ∷ h) e plays = plays_last Same w (after w s d) h e plays.1
+
+reply_alike : (r : Option Hresult) (c : Call) (m n : List (List ℕ)) → ((is_good_access r c ≡ true) → m ≡ n) → reply_or r (good_reply m c) ≡ reply_or r (good_reply n c)
+reply_alike (Some e) c m n same = refl
+reply_alike None (call.Recording l what) m n same = refl
+reply_alike None (call.Close l) m n same = refl
+reply_alike None (call.Reset l a) m n same = refl
+reply_alike None (call.Execute q ls) m n same = refl
+reply_alike None (call.Signal q f v) m n same = refl
+reply_alike None (call.HostWait f v) m n same = refl
+reply_alike None (call.Write b offset ws) m n same = refl
+reply_alike None (call.Read b offset bytes) m n same = ap (λ ws. good_reply ws (call.Read b offset bytes)) (same refl)
+
+-- the reply by the device's words is the machine's, where the device's words are the machine's at a host access
+pub reply_is : (w : World) (s : State) (lists : List Listed) (v : VkState) (c : Call) → lists ≡ s.desk.lists →
+    ((is_good_access (refusal w s.desk c) c ≡ true) → v.words ≡ s.memory) → reply_by w lists v c ≡ reply_of w s c
+reply_is w s lists v c are same =
+    ap (λ r. reply_or r (good_reply v.words c)) (refusal_is w s.desk lists c are) ∙ reply_alike (refusal w s.desk c) c v.words s.memory same
+
+-- a call with the reply by the device's words may come, with its words
+pub may_call : (w : World) (h : List Event) (lists : List Listed) (v : VkState) (t : ThreadId) (c : Call) →
+    IsWorld w → IsRunButWords w h → IsDevice w h v → lists ≡ (state_after w h).desk.lists →
+    (place_of (state_after w h).desk t.0).waits ≡ None → next_call w (state_after w h).desk t.0 ≡ Some c →
+    ((is_good_access (refusal w (state_after w h).desk c) c ≡ true) → IsQuiet (state_after w h)) → IsAhead w h v →
+    May SameReply w (state_after w h) (event.Call t c (reply_by w lists v c))
+may_call w h lists v t c world run device are waits next quiet is =
+    (waits, next, reply_is w (state_after w h) lists v c are (λ access. quiet_words w h v world run device is (quiet access)))
+
+-- a call that is served, in a world with a queue or without
+words_call : (w : World) (h : List Event) (lists : List Listed) (v : VkState) (t : ThreadId) (c : Call) (r : Reply) →
+    IsWorld w → IsRunButWords w h → IsRunButWords w (h ++ event.Call t c r ∷ []) → IsDevice w h v → lists ≡ (state_after w h).desk.lists →
+    ((is_good_access (refusal w (state_after w h).desk c) c ≡ true) → IsQuiet (state_after w h)) → IsAhead w h v → IsAhead w (h ++ event.Call t c r ∷ []) (device_by w lists v c)
+words_call w h lists v t c r world run now device are quiet is =
+    elim (cases_lt 0 (length w.queues)) [
+      inl some ↦ ahead_call w h lists v t c r run device some are quiet is
+    | inr none ↦
+        let lanes : length v.lanes ≤ 0 = omega (arith, device.objects.lanes, none) in
+        let m : List (List ℕ) = (state_after w h).memory in
+        let no : Option Hresult = refusal w (state_after w h).desk c in
+        let same : v.words ≡ m = idle_words w h v is (no_queue_idle w h v world run none lanes) in
+        no_queue_event w h (event.Call t c r) v (memory_or (refusal w (desk_of lists) c) (written c v.words) v.words) world now none lanes
+          (ap (λ o. memory_or o (written c v.words) v.words) (refusal_is w (state_after w h).desk lists c are) ∙ ap (λ ws. memory_or no (written c ws) ws) same) ]
+
+words_awake : (w : World) (h : List Event) (v : VkState) (t : ThreadId) → IsWorld w → IsRunButWords w h → IsRunButWords w (h ++ event.Awake t ∷ []) → IsDevice w h v →
+    IsAhead w h v → IsAhead w (h ++ event.Awake t ∷ []) v
+words_awake w h v t world run now device is =
+    elim (cases_lt 0 (length w.queues)) [
+      inl some ↦ ahead_awake w h v t (device_within w h v device some) is
+    | inr none ↦
+        let lanes : length v.lanes ≤ 0 = omega (arith, device.objects.lanes, none) in
+        no_queue_event w h (event.Awake t) v v.words world now none lanes (idle_words w h v is (no_queue_idle w h v world run none lanes)) ]
+
+-- the start
+pub whole_first : (w : World) → IsWorld w → IsWhole w [] (after_submit (vulkan.first_state (plan_of_world w)) (startup w))
+whole_first w world = record { run = λ _. tt; words = λ _. ahead_first w world }
+
+-- a call that is served, with the reply by the device's words
+pub whole_call : (w : World) (h : List Event) (lists : List Listed) (v : VkState) (t : ThreadId) (c : Call) →
+    IsWorld w → IsRunButWords w h → IsDevice w h v → lists ≡ (state_after w h).desk.lists →
+    (place_of (state_after w h).desk t.0).waits ≡ None → next_call w (state_after w h).desk t.0 ≡ Some c →
+    IsWhole w h v → IsWhole w (h ++ event.Call t c (reply_by w lists v c) ∷ []) (device_by w lists v c)
+whole_call w h lists v t c world run device are waits next is =
+    let r : Reply = reply_by w lists v c in
+    let e : Event = event.Call t c r in
+    let now : IsRunButWords w (h ++ e ∷ []) =
+      run_append w h e run (waits, next, replies_alike w (state_after w h) lists v c are (same_sizes w h v world device.objects)) in
+    record {
+      run = λ quiet. plays_append SameReply w (first_state w) h e (is.run (quiet_front w h e quiet))
+        (may_call w h lists v t c world run device are waits next (quiet_last w h e quiet) (is.words (quiet_front w h e quiet)));
+      words = λ quiet. words_call w h lists v t c r world run now device are (quiet_last w h e quiet) (is.words (quiet_front w h e quiet));
+    }
+
+-- a thread that wakes
+pub whole_awake : (w : World) (h : List Event) (v : VkState) (t : ThreadId) → IsWorld w → IsRunButWords w h → IsDevice w h v →
+    May SameButWords w (state_after w h) (event.Awake t) → IsWhole w h v → IsWhole w (h ++ event.Awake t ∷ []) v
+whole_awake w h v t world run device may is =
+    let e : Event = event.Awake t in
+    record {
+      run = λ quiet. plays_append SameReply w (first_state w) h e (is.run (quiet_front w h e quiet)) may;
+      words = λ quiet. words_awake w h v t world run (run_append w h e run may) device (is.words (quiet_front w h e quiet));
+    }
+
+-- the submission of the next operation of a queue
+pub whole_submit : (w : World) (h : List Event) (v : VkState) (q : ℕ) (b : Batch) (o : Operation) → IsWorld w → IsDevice w h v → q < length w.queues →
+    slice_get (operations w h q) (submitted_of v q) ≡ Some o → b.queue ≡ q → b.number ≡ submitted_of v q + 1 → b.commands ≡ lowered_commands o →
+    IsWhole w h v → IsWhole w h (after_submit v b)
+whole_submit w h v q b o world device within next queue number cs is = record {
+  run = is.run;
+  words = λ quiet.
+    at_first (λ p. slice_get (operations w h p) (submitted_of v p) ≡ Some o → b.queue ≡ p → b.number ≡ submitted_of v p + 1 → IsAhead w h (after_submit v b)) q (length w.queues) within
+      (omega (arith, within, world.one_queue))
+      (λ next queue number. ahead_submit w h v b o (omega (arith, device.objects.lanes, within)) next queue number cs (is.words quiet)) next queue number;
+}
+
+same_history : (w : World) (h : List Event) → (AreHostAccessesQuiet w (h ++ []) → AreHostAccessesQuiet w h) × (IsRun w h → IsRun w (h ++ []))
+same_history w h = (λ quiet. subst (AreHostAccessesQuiet w) (append-nil h) quiet, λ run. subst (IsRun w) (sym (append-nil h)) run)
+
+-- where a step's event makes a run but for words go on, it makes a run go on, and is no host access
+step_goes_on : (w : World) (h : List Event) (s : Stepped) → IsRunButWords w (h ++ step_events s) →
+    (AreHostAccessesQuiet w (h ++ step_events s) → AreHostAccessesQuiet w h) × (IsRun w h → IsRun w (h ++ step_events s))
+step_goes_on w h (Passed q n) now = same_history w h
+step_goes_on w h (Ran q n k) now = same_history w h
+step_goes_on w h Free now = same_history w h
+step_goes_on w h (Bumped q n) now = by_number (n == 0) now
+  where
+    by_number : (t : Bool) → IsRunButWords w (h ++ (if t then [] else event.Queue (record { 0 = q }) ∷ [])) →
+        (AreHostAccessesQuiet w (h ++ (if t then [] else event.Queue (record { 0 = q }) ∷ [])) → AreHostAccessesQuiet w h)
+        × (IsRun w h → IsRun w (h ++ (if t then [] else event.Queue (record { 0 = q }) ∷ [])))
+    by_number true now = same_history w h
+    by_number false now =
+      let e : Event = event.Queue (record { 0 = q }) in
+      (λ quiet. quiet_front w h e quiet, λ run. plays_append SameReply w (first_state w) h e run (plays_last SameButWords w (first_state w) h e now))
+
+-- the first step of the device
+pub whole_step : (w : World) (h : List Event) (v : VkState) (s : Stepped) → IsWorld w → IsRunButWords w h → IsDevice w h v →
+    slice_get (enabled_steps v) 0 ≡ Some s → IsRunButWords w (h ++ step_events s) → IsWhole w h v → IsWhole w (h ++ step_events s) (after_step v s)
+whole_step w h v s world run device at now is =
+    let goes : (AreHostAccessesQuiet w (h ++ step_events s) → AreHostAccessesQuiet w h) × (IsRun w h → IsRun w (h ++ step_events s)) = step_goes_on w h s now in
+    record {
+      run = λ quiet. goes.1 (is.run (goes.0 quiet));
+      words = λ quiet. ahead_step w h v s world run device at (is.words (goes.0 quiet));
+    }

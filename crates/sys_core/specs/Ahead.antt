@@ -1,0 +1,87 @@
+-- The device's words with what it has yet to do, and the machine's memory with what it has yet to complete.
+use Rattle.std.specs.Prelude.{ℕ, ◌≡◌, List, [], ◌∷◌, ◌++◌, drop, Option, Some, None, Bool, true, false}
+use Rattle.dx_base.specs.declared.hresult.Hresult.{Hresult}
+use Rattle.d3d_machine.specs.declared.world.World.{World}
+use Rattle.d3d_machine.specs.declared.calls.Call.{Call}
+use Rattle.d3d_machine.specs.declared.calls.Call.TheVariants as call
+use Rattle.d3d_machine.specs.declared.events.Operation.{Operation}
+use Rattle.d3d_machine.specs.declared.events.Event.{Event}
+use Rattle.d3d_machine.specs.declared.events.Event.TheVariants as event
+use Rattle.d3d_machine.specs.State.{State, first_state, called_of}
+use Rattle.d3d_machine.specs.Replies.{refusal}
+use Rattle.d3d_machine.specs.Effects.{after, memory_after_operation}
+use Rattle.d3d_machine.specs.Play.{IsRun, state_after}
+use Rattle.d3d_machine.specs.Operations.{operations, counter}
+use Rattle.vk_port.specs.declared.commands.VkCommand.{VkCommand}
+use Rattle.vk_port.specs.declared.lanes.Running.{Running}
+use Rattle.vk_port.specs.After.{after_command}
+use Rattle.vk_port.specs.Enabled.{undone}
+use Rattle.vk_port.specs.VkState.{VkState, lane_of}
+use Rattle.sys_core.specs.Lowering.{lowered_commands}
+use Rattle.sys_core.specs.Steps.{submitted_of}
+
+-- the words after commands in order
+abbrev pub run_commands : List VkCommand → List (List ℕ) → List (List ℕ)
+run_commands [] words = words
+run_commands (c ∷ cs) words = run_commands cs (after_command c words)
+
+-- the commands of batches that are not done, in order
+abbrev pub batches_undone : List Running → List VkCommand
+batches_undone [] = []
+batches_undone (r ∷ rs) = undone r ++ batches_undone rs
+
+-- the commands of the batches of operations, in order
+abbrev pub held_commands : List Operation → List VkCommand
+held_commands [] = []
+held_commands (o ∷ os) = lowered_commands o ++ held_commands os
+
+-- the memory after operations in order
+abbrev pub memory_ahead : List Operation → List (List ℕ) → List (List ℕ)
+memory_ahead [] m = m
+memory_ahead (o ∷ os) m = memory_ahead os (memory_after_operation m (Some o))
+
+-- the device's words after its commands that are not done, and after the operations that are not submitted, are
+-- the machine's memory after each called operation that is not complete
+pub record IsAhead (w : World) (h : List Event) (v : VkState) : Type 0 where
+  pub ahead : memory_ahead (drop (submitted_of v 0) (operations w h 0)) (run_commands (batches_undone (lane_of v 0).batches) v.words)
+      ≡ memory_ahead (drop (counter h 0) (operations w h 0)) (state_after w h).memory
+
+-- no called operation is incomplete
+pub record IsQuiet (s : State) : Type 0 where
+  pub none_called : (q : ℕ) → called_of s.desk q ≡ []
+
+-- a call reads or writes a buffer
+abbrev pub is_access : Call → Bool
+is_access (call.Recording l what) = false
+is_access (call.Close l) = false
+is_access (call.Reset l a) = false
+is_access (call.Execute q ls) = false
+is_access (call.Signal q f v) = false
+is_access (call.HostWait f v) = false
+is_access (call.Write b offset ws) = true
+is_access (call.Read b offset bytes) = true
+
+-- a call reads or writes a buffer, and is not refused
+abbrev pub is_good_access : Option Hresult → Call → Bool
+is_good_access None c = is_access c
+is_good_access (Some e) c = false
+
+-- an event is such a call
+abbrev pub is_host_access : World → State → Event → Bool
+is_host_access w s (event.Call t c r) = is_good_access (refusal w s.desk c) c
+is_host_access w s (event.Awake t) = false
+is_host_access w s (event.Queue q) = false
+
+-- from a state on, each host access comes only where no called operation is incomplete
+abbrev pub AreQuietFrom : World → State → List Event → Type 0
+AreQuietFrom w s [] = Unit {0}
+AreQuietFrom w s (e ∷ h) = ((is_host_access w s e ≡ true) → IsQuiet s) × AreQuietFrom w (after w s e) h
+
+-- in a history, each host access comes only where no called operation is incomplete
+abbrev pub AreHostAccessesQuiet : World → List Event → Type 0
+AreHostAccessesQuiet w h = AreQuietFrom w (first_state w) h
+
+-- where host accesses come only when no called operation is incomplete, the history is a run with its words
+pub record IsWhole (w : World) (h : List Event) (v : VkState) : Type 0 where
+  pub run : AreHostAccessesQuiet w h → IsRun w h
+  pub words : AreHostAccessesQuiet w h → IsAhead w h v

@@ -1,0 +1,56 @@
+//! Steps of threads.
+
+ghost use Rattle.std.specs.Prelude.{◌≡◌, ◌<◌, ◌≤◌, ◌++◌, ◌∷◌, [], map, length, true, slice_get, slice_index_or, Some, None, IfOk, OnOk, OnErr, IsSome};
+ghost use Rattle.dx_base.specs.Lists.{changed_at};
+ghost use Rattle.d3d_machine.specs.State.{script_of};
+ghost use Rattle.std.specs.Prelude.{◌+◌, ◌^◌};
+ghost use Rattle.sys_core.specs.declared.parts.Seat.{Seat};
+ghost use Rattle.sys_core.specs.Parts.{updates_in, seat_after, woken_seat};
+ghost use Rattle.sys_core.specs.Steps.{is_ready_thread, thread_event, after_event};
+ghost use Rattle.sys_core.specs.Serving.{HasCause};
+ghost use Rattle.sys_core.specs.Keeps.{Keeps, ready_by};
+
+use crate::faults::SysFault;
+use crate::parts::{Armed, Parts, Seat, armed_by, is_met_by};
+use crate::serve::serve;
+use d3d_machine::{Call, Event, World};
+use dx_base::{Room, Seq, ThreadId};
+use std::alloc::Global;
+use vk_port::VkDevice;
+
+/// Whether a thread can go on: it has a call left and does not wait, or its wait is met.
+pub(crate) fn is_ready(world: &World, parts: &Parts, thread: usize) -> bool
+    requires seats { thread < length parts.now.seats }
+    requires scripts { thread < length world.now.scripts }
+    ensures { (seat : Seat) → slice_get parts.now.seats thread ≡ Some seat → result ≡ ready_by (script_of world.now thread) (map updates_in parts.now.fences) seat }
+{
+    let seat = *parts.seats.at(thread);
+    match seat.waits {
+        None => seat.made < world.scripts.at(thread).len(),
+        Some(armed) => is_met_by(&parts.fences, armed),
+    }
+}
+
+/// Counts a call of a thread at that place, and lets the thread wait where the call begins a wait.
+#[tactic(auto, using(crate::proofs::Threading::seat_written))]
+fn seat_call(seats: &mut Seq<Seat>, fences: &Seq<Room<u64>>, thread: usize, seat: Seat, call: &Call)
+    requires seat { slice_get seats.old thread ≡ Some seat }
+    requires thread { thread < length seats.old }
+    requires small { seat.made + 1 < 2 ^ 64 }
+    ensures { seats.new ≡ changed_at (seat_after (map updates_in fences.now) call.now) thread seats.old }
+{
+    let waits = armed_by(fences, call, seat.waits);
+    *seats.at_mut(thread) = Seat {
+        made: seat.made + 1,
+        waits,
+    };
+}
+
+/// Lets a thread go on behind its wait.
+#[tactic(auto, using(dx_base::proofs::Lists::write_is_changed))]
+fn wake(seats: &mut Seq<Seat>, thread: usize)
+    requires { thread < length seats.old }
+    ensures { seats.new ≡ changed_at woken_seat thread seats.old }
+{
+    seats.at_mut(thread).waits = None;
+}
