@@ -39,8 +39,9 @@ recorded_good w what x good = by_kept x.error
     by_error : (o : Option Hresult) → record_error w x what ≡ o → is_good_list w (recorded_or o what x) ≡ true
     by_error (Some e) is = good
     by_error None is =
-      all_append (is_good_command w) x.commands ((record { what = what }) ∷ []) good
+        all_append (is_good_command w) x.commands ((record { what = what }) ∷ []) good
         (and_of (is_good_record w what) true (no_error w what (first_error (nat_le 1024 (length x.commands)) (argument_error w what) is)) refl)
+
     by_kept : (o : Option Hresult) → is_good_list w (kept_or o x (recorded_or (record_error w x what) what x)) ≡ true
     by_kept (Some e) = good
     by_kept None = by_error (record_error w x what) refl
@@ -120,7 +121,7 @@ from_good : (w : World) (s : State) (q : ℕ) (h : List Event) → AreGood w s.d
 from_good w s q [] good = refl
 from_good w s q (e ∷ h) good =
     all_append (is_good_operation w) (called_by w s.desk q e) (operations_from w (after w s e) q h) (by_event w s.desk q e good)
-      (from_good w (after w s e) q h (event_good w s.desk e good))
+    (from_good w (after w s e) q h (event_good w s.desk e good))
 
 declared_good : {A : Type 0} (w : World) (xs : List A) → list_all (is_good_list w) (map (λ _. declared_list) xs) ≡ true
 declared_good w [] = refl

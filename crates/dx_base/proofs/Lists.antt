@@ -94,8 +94,13 @@ map_alike f g (x ∷ xs) same = ap (λ y. y ∷ map f xs) (same x) ∙ ap (λ ys
 pub length_put : (first : ℕ) (new words : List ℕ) → length (put first new words) ≡ length words
 length_put first new words =
     length-take (length words) (take first words ++ (new ++ drop (first + length new) words))
-    ∙ omega (arith, length-append (take first words) (new ++ drop (first + length new) words), length-append new (drop (first + length new) words),
-      length-take first words, length-drop (first + length new) words)
+    ∙ omega (
+      arith,
+      length-append (take first words) (new ++ drop (first + length new) words),
+      length-append new (drop (first + length new) words),
+      length-take first words,
+      length-drop (first + length new) words,
+    )
 
 -- a written item, seen through a function
 pub map_write : {A B : Type 0} (f : A → B) (g : B → B) (xs : List A) (i : ℕ) (x y : A) → i < length xs → x ≡ get_or xs i x → f y ≡ g (f x) →

@@ -12,7 +12,7 @@ abbrev pub two_buffers : ℕ → DevicePlan
 two_buffers queues = record {
   buffers = record { words = 4; home = Upload } ∷ record { words = 4; home = Readback } ∷ [];
   queues = queues;
-  timelines = queues
+  timelines = queues;
 }
 
 -- a copy of two words between two barriers
@@ -23,5 +23,5 @@ one_copy queue number first = record {
   waits = [];
   commands = Barrier (record { 0 = 1 }) (record { 0 = 2 }) (record { 0 = 4 }) (record { 0 = 64 }) ∷ Copy 1 first 0 first 2
       ∷ Barrier (record { 0 = 4 }) (record { 0 = 128 }) (record { 0 = 8 }) (record { 0 = 256 }) ∷ [];
-  sets = (queue, 1) ∷ []
+  sets = (queue, 1) ∷ [];
 }

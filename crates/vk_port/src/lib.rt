@@ -17,9 +17,9 @@ mod plan;
 mod queues;
 mod sets;
 mod steps;
+mod store;
 #[cfg(test)]
 mod tests;
-mod store;
 mod timelines;
 mod words;
 

@@ -82,7 +82,11 @@ fn take<D: VkDevice>(device: &mut D, k: usize) -> Result<Stepped, DeviceFault>
 }
 
 /// Takes the steps of these places, one after another.
-fn run<D: VkDevice>(alloc: Global, device: &mut D, choices: &[usize]) -> Result<Seq<Stepped>, DeviceFault>
+fn run<D: VkDevice>(
+    alloc: Global,
+    device: &mut D,
+    choices: &[usize],
+) -> Result<Seq<Stepped>, DeviceFault>
     requires { IsSome (D.plan_of device.old) }
     ensures plan { D.plan_of device.new ≡ D.plan_of device.old }
     ensures sizes { map length (D.state device.new).words ≡ map length (D.state device.old).words }
@@ -149,7 +153,10 @@ fn batches_of_two_queues_overlap(rt: HostRuntime) -> Result<(), Fail> {
 fn lost_call(alloc: Global, fail: u64) -> Result<u64, DeviceFault> {
     let plan = plan_of(alloc, 1)?;
     let batch = copy_of(alloc, 0, 0, 0)?;
-    let mut device = PlainDevice::new(alloc, vec![in alloc; fail].map_err(|_| DeviceFault::Memory)?);
+    let mut device = PlainDevice::new(
+        alloc,
+        vec![in alloc; fail].map_err(|_| DeviceFault::Memory)?,
+    );
     if let Err(_) = device.create(&plan) {
         return Ok(1);
     }

@@ -8,5 +8,5 @@ pub host_read-requires-clause-inside : goal.host_read-requires-clause-inside
 host_read-requires-clause-inside g c =
     all_inside c.run.new.device.kept.seen.state
     (c.in_ok-taken.ensures.sizes
-      ∙ rw (c.in_ok-submit-2.ensures.state, c.in_ok-submit.ensures.state, c.in_ok-host_write.ensures.state, c.in_ok-create.ensures.state, c.in_ok-plan.ensures)
-        (ap (λ (n : ℕ). n ∷ 4 ∷ []) (length_put 0 c.as_slice.result.now (0 ∷ 0 ∷ 0 ∷ 0 ∷ []))))
+    ∙ rw (c.in_ok-submit-2.ensures.state, c.in_ok-submit.ensures.state, c.in_ok-host_write.ensures.state, c.in_ok-create.ensures.state, c.in_ok-plan.ensures)
+    (ap (λ (n : ℕ). n ∷ 4 ∷ []) (length_put 0 c.as_slice.result.now (0 ∷ 0 ∷ 0 ∷ 0 ∷ []))))
