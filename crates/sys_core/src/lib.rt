@@ -6,6 +6,7 @@ mod lowering;
 mod parts;
 mod serve;
 mod threads;
+mod worker;
 
 pub use faults::SysFault;
 pub use lowering::{batch_of, plan_of};
