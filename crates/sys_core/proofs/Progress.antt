@@ -1,9 +1,9 @@
 -- A thread that can go on has an enabled step, and so has the system while an operation is called and incomplete.
-use Rattle.std.proofs.Common.{ℕ, zero, suc, ◌≡◌, ◌<◌, ◌≤◌, ◌+◌, ◌-◌, ◌∙◌, sym, ap, subst, refl, arith, List, [], ◌∷◌, ◌++◌, length, map, drop, Some, None, Option, Bool, true, false, length-append, length-drop, get_or, ◌⊎◌, inl, inr}
+use Rattle.std.proofs.Common.{ℕ, zero, suc, ◌≡◌, ◌<◌, ◌≤◌, ◌+◌, ◌-◌, ◌∙◌, sym, ap, refl, arith, List, [], ◌∷◌, ◌++◌, length, Some, Bool, true, length-append, length-drop, inl, inr}
 use Rattle.std.proofs.lemmas.Bool.{cases_lt, lt-ltb}
 use Rattle.std.proofs.lemmas.Bool.Decides.{eqb_tells}
 use Rattle.std.proofs.lemmas.List.{length-map}
-use Rattle.std.proofs.lemmas.Option.{slice_get_within, slice_get-map, slice_get-get_or}
+use Rattle.std.proofs.lemmas.Option.{slice_get-map, slice_get-get_or}
 use Rattle.std.specs.List.{slice_get, list_all}
 use Rattle.std.specs.Option.{option_map}
 use Rattle.std.specs.Prelude.{nat_lt, if◌then◌else◌}
@@ -11,7 +11,6 @@ use Rattle.dx_base.specs.declared.steps.Step.{Step}
 use Rattle.dx_base.specs.declared.steps.Step.TheVariants as step
 use Rattle.dx_base.proofs.Lists.{and_both, and_of}
 use Rattle.d3d_machine.specs.declared.world.World.{World}
-use Rattle.d3d_machine.specs.declared.events.Operation.{Operation}
 use Rattle.d3d_machine.specs.declared.events.Event.{Event}
 use Rattle.d3d_machine.specs.World.{IsWorld}
 use Rattle.d3d_machine.specs.State.{called_of}
@@ -28,7 +27,6 @@ use Rattle.vk_port.specs.VkState.{VkState, lane_of, no_lane, counter_of}
 use Rattle.vk_port.proofs.Lists.{item_at}
 use Rattle.vk_port.proofs.Progress.{lane_goes}
 use Rattle.sys_core.specs.Lowering.{startup}
-use Rattle.sys_core.specs.Stands.{Stands, StandsAt}
 use Rattle.sys_core.specs.Steps.{is_ready_thread, is_ready_worker, submitted_of, steps_where, always, enabled_of}
 use Rattle.sys_core.specs.Consistent.{IsDevice, finished_of}
 use Rattle.sys_core.proofs.Ahead.{called_now}
@@ -53,6 +51,7 @@ where_some test make n (suc k) t least less passes =
         let later : n ≤ t → n + 1 ≤ t = λ le. elim (cases_lt n t) [ inl lt ↦ omega (arith, lt) | inr past ↦ absurd (other.1 (omega (arith, le, past))) ] in
         omega (arith, parts, where_some test make (n + 1) k t (later least) (omega (arith, less)) passes) ]
 
+-- the steps of the threads, of the workers and of the device
 abbrev threads_of : World → List Event → List Step
 threads_of w h = steps_where (is_ready_thread w h) (λ t. step.Thread t) 0 (length w.scripts)
 

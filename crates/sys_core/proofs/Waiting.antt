@@ -1,5 +1,5 @@
 -- The waits of each batch of the one queue are for what the queue has done before.
-use Rattle.std.proofs.Common.{ℕ, zero, suc, ◌≡◌, ◌<◌, ◌≤◌, ◌+◌, ◌-◌, ◌∙◌, sym, ap, subst, refl, arith, List, [], ◌∷◌, ◌++◌, length, take, min, Some, Option, Bool, true, false, inl, inr}
+use Rattle.std.proofs.Common.{ℕ, zero, suc, ◌≡◌, ◌<◌, ◌≤◌, ◌+◌, ◌-◌, ◌∙◌, ap, subst, refl, arith, List, [], ◌∷◌, ◌++◌, length, take, Some, Bool, true, false}
 use Rattle.std.proofs.lemmas.Bool.{le-leb}
 use Rattle.std.proofs.lemmas.List.{length-take}
 use Rattle.std.specs.List.{slice_get, list_all, slice_index_or}
