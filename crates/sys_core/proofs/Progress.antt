@@ -51,13 +51,15 @@ where_some test make n (suc k) t least less passes =
         let later : n ≤ t → n + 1 ≤ t = λ le. elim (cases_lt n t) [ inl lt ↦ omega (arith, lt) | inr past ↦ absurd (other.1 (omega (arith, le, past))) ] in
         omega (arith, parts, where_some test make (n + 1) k t (later least) (omega (arith, less)) passes) ]
 
--- the steps of the threads, of the workers and of the device
+-- the steps of the threads
 abbrev threads_of : World → List Event → List Step
 threads_of w h = steps_where (is_ready_thread w h) (λ t. step.Thread t) 0 (length w.scripts)
 
+-- the steps of the workers
 abbrev workers_of : World → List Event → VkState → List Step
 workers_of w h v = steps_where (is_ready_worker w h v) (λ q. step.Worker q) 0 (length w.queues)
 
+-- the steps of the device
 abbrev devices_of : VkState → ℕ → List Step
 devices_of v free = steps_where always (λ k. step.Device k) 0 (steps_offered v free)
 
