@@ -19,3 +19,5 @@ pub mod AheadSteps
 pub mod NoQueue
 pub mod Whole
 pub mod Threading
+pub mod Waiting
+pub mod Progress

@@ -52,7 +52,8 @@ no_pending w h f (b ∷ bs) found one named =
     ap (λ k. other_pending w h 0 f (if (not (k == 0) && (nat_lt (counter h b.queue) b.number && signals_fence f (slice_get (operations w h b.queue) (b.number - 1)))) then (b.queue, b.number) ∷ [] else found) bs) here
     ∙ no_pending w h f bs found one both.1
 
-waits_are : (w : World) (h : List Event) (earlier : List Batch) (q : ℕ) (before : List Operation) (o : Operation) → q ≡ 0 → length w.queues ≡ 1 →
+-- the waits of a batch, where there is no other queue
+pub waits_are : (w : World) (h : List Event) (earlier : List Batch) (q : ℕ) (before : List Operation) (o : Operation) → q ≡ 0 → length w.queues ≡ 1 →
     list_all (λ b. nat_lt b.queue (length w.queues)) earlier ≡ true → waits_of w h earlier q before o ≡ waits_by (length w.queues) q (last_signal 1 0 before) o
 waits_are w h earlier q before (Execute cs) zeroth one named =
     ap (λ xs. (length w.queues, 1) ∷ (own_wait q (last_signal 1 0 before) ++ xs)) (no_other w h q zeroth one)

@@ -12,3 +12,4 @@ pub mod Valid
 pub mod Falls
 pub mod Matching
 pub mod Examples
+pub mod Progress
