@@ -45,17 +45,18 @@ first_goes q (suc passed) (x ∷ rs) r is some marked =
     let steps : List Stepped = batch_commands q x.batch.number 1 [] x.batch.commands x.done in
     let more : List Stepped = lane_commands q (undone x) (take passed rs) in
     let even : length x.done ≡ length x.batch.commands =
-      eqb-true (length x.done) (length x.batch.commands) (subst (λ y. is_marked y ≡ true) same marked) in
+    eqb-true (length x.done) (length x.batch.commands) (subst (λ y. is_marked y ≡ true) same marked) in
     elim (batch_goes q x.batch.number 1 x.batch.commands x.done even) [
-      inl all ↦ inl (subst (λ y. all_done y ≡ true) (sym same) all)
-    | inr goes ↦ inr (omega (arith, goes, length-append steps more)) ]
+      | inl all ↦ inl (subst (λ y. all_done y ≡ true) (sym same) all)
+      | inr goes ↦ inr (omega (arith, goes, length-append steps more))
+    ]
 
 -- the pass of a lane whose first batch is the next one, and does not wait
 pass_is : (ts : List ℕ) (q : ℕ) (lane : Lane) (r : Running) → slice_get lane.batches 0 ≡ Some r → lane.passed ≡ 0 → reached ts r.batch.waits ≡ true →
     ready_pass ts q lane ≡ Passed q r.batch.number ∷ []
 pass_is ts q lane r is none waits =
     let steps : Option Running → List Stepped =
-      λ o. elim o [ None ↦ [] | Some next ↦ if reached ts next.batch.waits then Passed q next.batch.number ∷ [] else [] ] in
+    λ o. elim o [ None ↦ [] | Some next ↦ if reached ts next.batch.waits then Passed q next.batch.number ∷ [] else [] ] in
     ap (λ i. steps (slice_get lane.batches i)) none ∙ ap steps is ∙ ap (λ t. if t then Passed q r.batch.number ∷ [] else []) waits
 
 -- the end of a lane's first batch that has passed, and whose commands are done
@@ -63,7 +64,7 @@ bump_is : (q : ℕ) (lane : Lane) (r : Running) → slice_get lane.batches 0 ≡
     ready_bump q lane ≡ Bumped q r.batch.number ∷ []
 bump_is q lane r is some all =
     let steps : Option Running → List Stepped =
-      λ o. elim o [ None ↦ [] | Some first ↦ if nat_lt 0 lane.passed && all_done first then Bumped q first.batch.number ∷ [] else [] ] in
+    λ o. elim o [ None ↦ [] | Some first ↦ if nat_lt 0 lane.passed && all_done first then Bumped q first.batch.number ∷ [] else [] ] in
     ap steps is ∙ ap (λ t. if t && all_done r then Bumped q r.batch.number ∷ [] else []) (lt-ltb 0 lane.passed some)
     ∙ ap (λ t. if t then Bumped q r.batch.number ∷ [] else []) all
 
@@ -75,16 +76,18 @@ lane_goes v q lane r there is marked waits =
     let ys : List Stepped = commands 0 v.lanes in
     let zs : List Stepped = bumps 0 v.lanes in
     let parts : length (enabled_steps v) ≡ length xs + (length ys + length zs) =
-      length-append xs (ys ++ zs) ∙ ap (λ n. length xs + n) (length-append ys zs) in
+    length-append xs (ys ++ zs) ∙ ap (λ n. length xs + n) (length-append ys zs) in
     let pass : length (ready_pass v.timelines (0 + q) lane) ≤ length xs = part_in (ready_pass v.timelines) (passes v.timelines) (λ p l ls. refl) v.lanes 0 q lane there in
     let run : length (lane_commands (0 + q) [] (take lane.passed lane.batches)) ≤ length ys =
-      part_in (λ p l. lane_commands p [] (take l.passed l.batches)) commands (λ p l ls. refl) v.lanes 0 q lane there in
+    part_in (λ p l. lane_commands p [] (take l.passed l.batches)) commands (λ p l ls. refl) v.lanes 0 q lane there in
     let bump : length (ready_bump (0 + q) lane) ≤ length zs = part_in ready_bump bumps (λ p l ls. refl) v.lanes 0 q lane there in
     elim (cases_lt 0 lane.passed) [
-      inl some ↦
-        elim (first_goes (0 + q) lane.passed lane.batches r is some marked) [
-          inl all ↦ omega (arith, parts, bump, ap length (bump_is (0 + q) lane r is some all))
-        | inr goes ↦ omega (arith, parts, run, goes) ]
-    | inr none ↦
-        let zeroth : lane.passed ≡ 0 = omega (arith, none) in
-        omega (arith, parts, pass, ap length (pass_is v.timelines (0 + q) lane r is zeroth (waits zeroth))) ]
+      | inl some ↦
+          elim (first_goes (0 + q) lane.passed lane.batches r is some marked) [
+            | inl all ↦ omega (arith, parts, bump, ap length (bump_is (0 + q) lane r is some all))
+            | inr goes ↦ omega (arith, parts, run, goes)
+          ]
+      | inr none ↦
+          let zeroth : lane.passed ≡ 0 = omega (arith, none) in
+          omega (arith, parts, pass, ap length (pass_is v.timelines (0 + q) lane r is zeroth (waits zeroth)))
+    ]
