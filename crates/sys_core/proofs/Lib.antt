@@ -21,3 +21,4 @@ pub mod Whole
 pub mod Threading
 pub mod Waiting
 pub mod Progress
+pub mod WorkerStep

@@ -1,5 +1,5 @@
 -- What contracts see of the system's parts, and how each kind of step changes them.
-use Rattle.std.specs.Prelude.{ℕ, ◌≡◌, ◌+◌, ◌-◌, ◌==◌, nat_lt, List, [], ◌∷◌, ◌++◌, length, map, drop, slice_get, slice_index_or, Option, Some, None, Bool, true, false, if◌then◌else◌}
+use Rattle.std.specs.Prelude.{ℕ, ◌≡◌, ◌≤◌, ◌+◌, ◌-◌, ◌==◌, nat_lt, List, [], ◌∷◌, ◌++◌, length, map, drop, slice_get, slice_index_or, Option, Some, None, Bool, true, false, if◌then◌else◌}
 use Rattle.dx_base.specs.Lists.{changed_at}
 use Rattle.dx_base.specs.Roomy.{Roomy}
 use Rattle.dx_base.specs.declared.hresult.Hresult.{Hresult}
@@ -151,3 +151,11 @@ without (Some s) x = record x { signals = drop 1 x.signals }
 abbrev pub updated_by : Option Signalled → List (List ℕ) → List (List ℕ)
 updated_by None fences = fences
 updated_by (Some s) fences = changed_at (λ us. us ++ s.value ∷ []) s.fence.0 fences
+
+-- the first submitted signal of a queue
+abbrev pub first_signal : Queued → Option Signalled
+first_signal x = slice_get x.signals 0
+
+-- the fence of a signal can take one more update without asking for memory
+pub record HasRoomFor (signal : Option Signalled) (fences : List (Roomy ℕ)) : Type 0 where
+  pub room : (s : Signalled) (r : Roomy ℕ) → signal ≡ Some s → slice_get fences s.fence.0 ≡ Some r → 1 ≤ r.spare

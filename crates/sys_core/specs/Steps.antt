@@ -18,7 +18,8 @@ use Rattle.vk_port.specs.declared.commands.Batch.{Batch}
 use Rattle.vk_port.specs.Journal.{next_number}
 use Rattle.vk_port.specs.Offers.{steps_offered}
 use Rattle.vk_port.specs.VkState.{VkState}
-use Rattle.vk_port.specs.After.{after_submit}
+use Rattle.vk_port.specs.After.{after_submit, after_step}
+use Rattle.vk_port.specs.Enabled.{enabled_steps}
 use Rattle.sys_core.specs.Lowering.{lowered}
 
 -- a thread's step is enabled where it does not wait and its script has a next call, or its wait is met
@@ -91,3 +92,11 @@ submitted_batches w h v q = next_batch w h v q (slice_get (operations w h q) (su
 abbrev pub after_submits : VkState → List Batch → VkState
 after_submits v [] = v
 after_submits v (b ∷ bs) = after_submits (after_submit v b) bs
+
+-- a step of the device: of the Vulkan machine where its place is one of that machine's steps, else a free one
+pub record IsDeviceStep (h after : List Event) (v u : VkState) (k : ℕ) : Type 0 where
+  pub step : Stepped
+  pub named : k < length (enabled_steps v) → slice_get (enabled_steps v) k ≡ Some step
+  pub free : length (enabled_steps v) ≤ k → step ≡ stepped.Free
+  pub state : u ≡ after_step v step
+  pub history : after ≡ h ++ step_events step

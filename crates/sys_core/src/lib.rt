@@ -1,6 +1,7 @@
 //! The whole system: it serves the calls of threads, lowers operations to batches, and runs a device.
 #![tactic(auto)]
 
+mod device_steps;
 mod faults;
 mod lowering;
 mod parts;

@@ -55,3 +55,23 @@ fn count_submitted(held: &mut Held)
         None => unreachable!(),
     }
 }
+
+/// A step of a queue's worker: the batch of its next operation is submitted. Refused, all stays but room.
+pub(crate) fn worker_step<D: VkDevice>(alloc: Global, world: &World, history: &Room<Event>, parts: &mut Parts, device: &mut D, queue: QueueId) -> Result<(), SysFault>
+    requires keeps { Keeps D.state D.plan_of world.now history.now.items parts.old device.old }
+    requires queue { queue.0 < length world.now.queues }
+    requires ready { is_ready_worker world.now history.now.items (D.state device.old) queue.0 ≡ true }
+    ensures keeps { Keeps D.state D.plan_of world.now history.now.items parts.new device.new }
+    ensures state { OnOk result (D.state device.new ≡ after_submits (D.state device.old) (submitted_batches world.now history.now.items (D.state device.old) queue.0)) }
+    ensures same_state { OnErr result (D.state device.new ≡ D.state device.old) }
+    ensures rest { D.rest_of device.new ≡ D.rest_of device.old }
+    ensures faults { D.faults device.old ≤ D.faults device.new }
+    ensures cause { HasCause (D.faults device.old) (D.faults device.new) result }
+{
+    let _events = history.len();
+    let held = parts.held.at_mut(queue.0 as usize);
+    let batch = next_batch(alloc, world, held, queue)?;
+    device.submit(batch)?;
+    count_submitted(held);
+    Ok(())
+}

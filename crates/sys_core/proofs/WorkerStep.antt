@@ -1,0 +1,138 @@
+-- What a worker's step needs, and what it leaves.
+use Rattle.std.proofs.Common.{ℕ, zero, suc, ◌≡◌, ◌<◌, ◌≤◌, ◌+◌, ◌-◌, ◌^◌, ◌∙◌, sym, ap, subst, refl, arith, List, [], ◌∷◌, ◌++◌, length, map, drop, Some, None, Option, Bool, true, false, get_or, set, cond, length-append, IsSome, IfSome}
+use Rattle.std.proofs.lemmas.Bool.{ltb-true}
+use Rattle.std.proofs.lemmas.List.{length-map}
+use Rattle.std.proofs.lemmas.Option.{slice_get_within, slice_get-map, slice_get_read}
+use Rattle.std.specs.List.{slice_get, list_all}
+use Rattle.std.specs.Option.{option_map}
+use Rattle.std.specs.Prelude.{◌==◌, if◌then◌else◌}
+use Rattle.dx_base.specs.Lists.{changed_at}
+use Rattle.dx_base.specs.declared.hresult.Hresult.{Hresult}
+use Rattle.dx_base.proofs.Lists.{map_write}
+use Rattle.d3d_machine.specs.declared.world.World.{World}
+use Rattle.d3d_machine.specs.declared.calls.Call.{Call}
+use Rattle.d3d_machine.specs.declared.calls.Call.TheVariants as call
+use Rattle.d3d_machine.specs.declared.events.Operation.{Operation}
+use Rattle.d3d_machine.specs.declared.events.Operation.TheVariants as operation
+use Rattle.d3d_machine.specs.declared.events.Event.{Event}
+use Rattle.d3d_machine.specs.declared.events.Event.TheVariants as event
+use Rattle.d3d_machine.specs.State.{Desk, State, first_state}
+use Rattle.d3d_machine.specs.Replies.{refusal}
+use Rattle.d3d_machine.specs.Effects.{after, gathered}
+use Rattle.d3d_machine.specs.Operations.{operations, operations_from, called_by, operation_of, unless_refused}
+use Rattle.d3d_machine.specs.Good.{is_good_operation}
+use Rattle.d3d_machine.proofs.Good.{operations_are_good}
+use Rattle.d3d_machine.proofs.Named.{all_at}
+use Rattle.vk_port.specs.declared.commands.Batch.{Batch}
+use Rattle.vk_port.specs.declared.plan.DevicePlan.{DevicePlan}
+use Rattle.vk_port.specs.Journal.{next_number, fits_plan}
+use Rattle.vk_port.specs.VkState.{VkState}
+use Rattle.vk_port.specs.After.{after_submit}
+use Rattle.vk_port.proofs.Lists.{item_at}
+use Rattle.sys_core.specs.declared.parts.Held.{Held}
+use Rattle.sys_core.specs.declared.parts.Parts.{Parts}
+use Rattle.sys_core.specs.Lowering.{plan_of_world, lowered}
+use Rattle.sys_core.specs.Batches.{batch_by, is_small_operation}
+use Rattle.sys_core.specs.Parts.{Queued, queued, updates_in, submitted_one}
+use Rattle.sys_core.specs.Steps.{submitted_of, is_ready_worker, submitted_batches, next_batch, after_submits}
+use Rattle.sys_core.specs.Consistent.{IsHeld, IsConsistent}
+use Rattle.sys_core.specs.Keeps.{Keeps}
+use Rattle.sys_core.proofs.Holding.{slice_get_drop}
+use Rattle.sys_core.proofs.Standing.{next_is}
+use Rattle.sys_core.proofs.Fitting.{small_operation, batch_fits}
+use Rattle.sys_core.proofs.Working.{lowered_is, consistent_submit}
+
+one_at_most : (b : Bool) (o : Operation) → length (if b then o ∷ [] else []) ≤ 1
+one_at_most true o = omega arith
+one_at_most false o = omega arith
+
+call_gives : (r : Option Hresult) (d : Desk) (q : ℕ) (c : Call) → length (unless_refused r (operation_of d q c)) ≤ 1
+call_gives (Some e) d q c = omega arith
+call_gives None d q (call.Recording l what) = omega arith
+call_gives None d q (call.Close l) = omega arith
+call_gives None d q (call.Reset l a) = omega arith
+call_gives None d q (call.Execute p ls) = one_at_most (p.0 == q) (operation.Execute (gathered d.lists (map (λ l. l.0) ls)))
+call_gives None d q (call.Signal p f v) = one_at_most (p.0 == q) (operation.Signal f v)
+call_gives None d q (call.HostWait f v) = omega arith
+call_gives None d q (call.Write b o ws) = omega arith
+call_gives None d q (call.Read b o n) = omega arith
+
+event_gives : (w : World) (d : Desk) (q : ℕ) (e : Event) → length (called_by w d q e) ≤ 1
+event_gives w d q (event.Call t c r) = call_gives (refusal w d c) d q c
+event_gives w d q (event.Awake t) = omega arith
+event_gives w d q (event.Queue p) = omega arith
+
+-- there are no more operations than events
+operations_few : (w : World) (s : State) (q : ℕ) (h : List Event) → length (operations_from w s q h) ≤ length h
+operations_few w s q [] = omega arith
+operations_few w s q (e ∷ h) =
+    omega (arith, length-append (called_by w s.desk q e) (operations_from w (after w s e) q h), event_gives w s.desk q e, operations_few w (after w s e) q h)
+
+-- a queue's next operation
+pub record IsNext (w : World) (h : List Event) (v : VkState) (q : ℕ) (y : Held) (o : Operation) : Type 0 where
+  pub held : IsHeld w h v q (queued y)
+  pub head : slice_get y.operations.items 0 ≡ Some o
+  pub called : slice_get (operations w h q) (submitted_of v q) ≡ Some o
+  pub good : is_good_operation w o ≡ true
+  pub few : y.submitted + 1 ≤ length h
+
+module _ {D : Type 0} (state : D → VkState) (plan_of : D → Option DevicePlan) (w : World) (h : List Event) (p : Parts) (d : D) (keeps : Keeps state plan_of w h p d) where
+  pub held_at : (q : ℕ) (y : Held) → q < length w.queues → y ≡ get_or p.held q y → slice_get p.held q ≡ Some y
+  held_at q y within is =
+      slice_get_read p.held (length p.held) q y refl (omega (arith, within, length-map p.held queued, keeps.consistent.held_are.count)) is
+
+  pub next_found : (q : ℕ) (y : Held) → q < length w.queues → is_ready_worker w h (state d) q ≡ true → slice_get p.held q ≡ Some y → (o : Operation) × IsNext w h (state d) q y o
+  next_found q y within ready at =
+      let held : IsHeld w h (state d) q (queued y) =
+        keeps.consistent.held_are.each q (queued y) (slice_get-map queued p.held q ∙ ap (option_map queued) at) in
+      let os : List Operation = operations w h q in
+      let some : submitted_of (state d) q < length os = ltb-true (submitted_of (state d) q) (length os) ready in
+      let found : (o : Operation) × (slice_get os (submitted_of (state d) q) ≡ Some o) = item_at os (submitted_of (state d) q) some in
+      (found.0, record {
+        held = held;
+        head = ap (λ xs. slice_get xs 0) held.rest ∙ slice_get_drop y.submitted os ∙ ap (slice_get os) held.submitted_is ∙ found.1;
+        called = found.1;
+        good = all_at (is_good_operation w) os (submitted_of (state d) q) found.0 (operations_are_good w h q) found.1;
+        few = omega (arith, some, held.submitted_is, operations_few w (first_state w) q h);
+      })
+
+  pub small_next : (o : Operation) → is_good_operation w o ≡ true → is_small_operation o ≡ true
+  small_next o good = small_operation w o keeps.consistent.world good
+
+  pub number_next : (q : ℕ) (y : Held) (o : Operation) → q < length w.queues → IsNext w h (state d) q y o → y.submitted + 1 ≡ next_number q (state d).journal
+  number_next q y o within next =
+      ap (λ k. k + 1) next.held.submitted_is
+      ∙ sym (next_is w (state d) keeps.consistent.device.stands.rest q keeps.consistent.device.stands.begins (keeps.consistent.device.stands.queues q within).numbered)
+
+  pub fits_next : (q : ℕ) (y : Held) (o : Operation) (b : Batch) → q < length w.queues → IsNext w h (state d) q y o → b ≡ batch_by w q (y.submitted + 1) y.last_signal o →
+      IfSome (plan_of d) (λ plan. fits_plan plan b ≡ true)
+  fits_next q y o b within next is =
+      subst (λ plan. IfSome plan (λ x. fits_plan x b ≡ true)) (sym keeps.plan)
+        (ap (fits_plan (plan_of_world w)) is ∙ batch_fits w q (y.submitted + 1) y.last_signal o keeps.consistent.world within next.good)
+
+  -- the batch that was submitted is the lowered one
+  pub batch_next : (q : ℕ) (y : Held) (o : Operation) (b : Batch) → q < length w.queues → IsNext w h (state d) q y o → b ≡ batch_by w q (y.submitted + 1) y.last_signal o →
+      b ≡ lowered w h (state d).journal q (submitted_of (state d) q + 1) o
+  batch_next q y o b within next is = is ∙ sym (lowered_is w h (state d) q (queued y) o keeps.consistent.world keeps.consistent.device next.held within)
+
+  pub state_next : (q : ℕ) (y : Held) (o : Operation) (b : Batch) (u : VkState) → q < length w.queues → IsNext w h (state d) q y o → b ≡ batch_by w q (y.submitted + 1) y.last_signal o →
+      u ≡ after_submit (state d) b → u ≡ after_submits (state d) (submitted_batches w h (state d) q)
+  state_next q y o b u within next is after =
+      after ∙ ap (after_submit (state d)) (batch_next q y o b within next is)
+      ∙ ap (λ x. after_submits (state d) (next_batch w h (state d) q x)) (sym next.called)
+
+  pub keeps_next : (q : ℕ) (y z : Held) (o : Operation) (b : Batch) (e : D) → q < length w.queues → slice_get p.held q ≡ Some y → y ≡ get_or p.held q y → IsNext w h (state d) q y o →
+      b ≡ batch_by w q (y.submitted + 1) y.last_signal o → state e ≡ after_submit (state d) b → plan_of e ≡ plan_of d → queued z ≡ submitted_one o (queued y) →
+      Keeps state plan_of w h (record p { held = set p.held q z }) e
+  keeps_next q y z o b e within at lent next is after plan submitted =
+      let at_queued : slice_get (map queued p.held) q ≡ Some (queued y) = slice_get-map queued p.held q ∙ ap (option_map queued) at in
+      let held : map queued (set p.held q z) ≡ changed_at (submitted_one o) q (map queued p.held) =
+        map_write queued (submitted_one o) p.held q y z (slice_get_within p.held q y at) lent submitted in
+      record {
+        consistent =
+          subst (λ v. IsConsistent w h p.lists p.seats (map updates_in p.fences) (map queued (set p.held q z)) v)
+            (sym (after ∙ ap (after_submit (state d)) (batch_next q y o b within next is)))
+          (subst (λ x. IsConsistent w h p.lists p.seats (map updates_in p.fences) x (after_submit (state d) (lowered w h (state d).journal q (submitted_of (state d) q + 1) o))) (sym held)
+            (consistent_submit w h p.lists p.seats (map updates_in p.fences) (map queued p.held) (state d) q (queued y) o keeps.consistent at_queued next.head));
+        plan = plan ∙ keeps.plan;
+      }
