@@ -19,3 +19,4 @@ pub mod AheadSteps
 pub mod NoQueue
 pub mod Whole
 pub mod Threading
+pub mod FormRuns

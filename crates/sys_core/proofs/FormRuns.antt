@@ -1,0 +1,128 @@
+-- The steps of a run of rounds, from moment to moment.
+use Rattle.std.proofs.Common.{ℕ, ◌≡◌, ◌+◌, ◌<◌, ◌≤◌, ◌==◌, ◌||◌, ◌&&◌, ◌∙◌, nat_le, refl, sym, ap, subst, arith, Bool, true, false, List, [], ◌∷◌, length, slice_get, Option, Some, None}
+use Rattle.std.specs.Prelude.{nat_lt}
+use Rattle.std.specs.List.{flat_map}
+use Rattle.std.proofs.lemmas.Bool.{le-leb, lt-leb}
+use Rattle.dx_base.specs.declared.hresult.Hresult.{Hresult}
+use Rattle.d3d_machine.specs.declared.world.World.{World}
+use Rattle.d3d_machine.specs.declared.calls.Call.{Call}
+use Rattle.d3d_machine.specs.declared.calls.Call.TheVariants as call
+use Rattle.d3d_machine.specs.declared.events.Event.TheVariants as event
+use Rattle.d3d_machine.specs.declared.events.Listed.{Listed}
+use Rattle.d3d_machine.specs.declared.events.ListState.TheVariants as state
+use Rattle.d3d_machine.specs.State.{Waiting, Desk, declared_list}
+use Rattle.d3d_machine.specs.Replies.{refusal}
+use Rattle.d3d_machine.specs.Effects.{desk_after, desk_after_call, desk_or, counted, woken}
+use Rattle.d3d_machine.specs.Play.{is_marked}
+use Rattle.trace_text.specs.declared.round.Round.{Round}
+use Rattle.trace_text.specs.Round.{calls_of}
+use Rattle.trace_text.specs.Form.{world_with}
+use Rattle.sys_core.specs.Ahead.{is_access}
+use Rattle.sys_core.specs.FormRuns.{Flight, Both, Last, Neither, Moment, Between, Written, Begun, Recorded, Ended, Executed, Signalled, Waits, Woken, from_write, left_at, next_at, signals, after_call, less, after_queue, after_awake, value_in, value_at, called_busy, called_in, called_at, list_copied, list_between, list_at, is_through, waits_at, desk_at, AreRising, IsRising}
+
+-- a fact of the next call, where there is one
+abbrev pub OnNext : (Call → Type 0) → Option Call → Type 0
+OnNext P None = Unit {0}
+OnNext P (Some c) = P c
+
+-- a fact of the next call holds of a call that is the next
+pub on_next : (P : Call → Type 0) (o : Option Call) (c : Call) → OnNext P o → o ≡ Some c → P c
+on_next P None c holds is = absurd (cc)
+on_next P (Some d) c holds is = let same : d ≡ c = cc in subst P same holds
+
+same_either : (r : Option Hresult) (d : Desk) → desk_or r d d ≡ d
+same_either None d = refl
+same_either (Some e) d = refl
+
+-- the value of the round suffices exactly where its signal is complete
+reached : (f : Flight) (v u : ℕ) → v < u → nat_le u (value_in f v u) ≡ is_through f
+reached Both v u above = lt-leb u v above
+reached Last v u above = lt-leb u v above
+reached Neither v u above = le-leb u u (omega arith)
+
+-- a moment's desk, with that mark of the wait
+abbrev marked_desk : ℕ → ℕ → Round → List Round → Flight → Bool → Desk
+marked_desk n v r rs f b =
+    record (desk_at n (Waits f v r rs)) { threads = (record { made = n; waits = Some (record { fence = 0; value = r.value; marked = b }) }) ∷ [] }
+
+write_call : (calls : List Call) (n : ℕ) (first : Bool) (v : ℕ) (r : Round) (rs : List Round) →
+    desk_after_call (world_with calls) (desk_at n (Between first v (r ∷ rs))) 0 (call.Write (record { 0 = 0 }) 0 r.words) ≡ desk_at (n + 1) (Written first v r rs)
+write_call calls n first v r rs =
+    let d : Desk = desk_at n (Between first v (r ∷ rs)) in
+    ap (counted 0) (same_either (refusal (world_with calls) d (call.Write (record { 0 = 0 }) 0 r.words)) d)
+
+reset_call : (calls : List Call) (n : ℕ) (first : Bool) (v : ℕ) (r : Round) (rs : List Round) →
+    desk_after_call (world_with calls) (desk_at n (Written first v r rs)) 0 (call.Reset (record { 0 = 0 }) (record { 0 = 0 })) ≡ desk_at (n + 1) (Begun v r rs)
+reset_call calls n true v r rs = refl
+reset_call calls n false v r rs = refl
+
+signal_call : (calls : List Call) (n : ℕ) (busy : Bool) (v : ℕ) (r : Round) (rs : List Round) →
+    desk_after_call (world_with calls) (desk_at n (Executed busy v r rs)) 0 (call.Signal (record { 0 = 0 }) (record { 0 = 0 }) r.value)
+      ≡ desk_at (n + 1) (Signalled (signals busy) v r rs)
+signal_call calls n true v r rs = refl
+signal_call calls n false v r rs = refl
+
+-- the next call leads to the moment behind it
+pub call_moves : (calls : List Call) (n : ℕ) (m : Moment) → IsRising m →
+    OnNext (λ c. desk_after_call (world_with calls) (desk_at n m) 0 c ≡ desk_at (n + 1) (after_call m)) (next_at m)
+call_moves calls n (Between first v []) rising = tt
+call_moves calls n (Between first v (r ∷ rs)) rising = write_call calls n first v r rs
+call_moves calls n (Written first v r rs) rising = reset_call calls n first v r rs
+call_moves calls n (Begun v r rs) rising = refl
+call_moves calls n (Recorded v r rs) rising = refl
+call_moves calls n (Ended v r rs) rising = refl
+call_moves calls n (Executed busy v r rs) rising = signal_call calls n busy v r rs
+call_moves calls n (Signalled f v r rs) rising = ap (marked_desk (n + 1) v r rs f) (reached f v r.value rising.0)
+call_moves calls n (Waits f v r rs) rising = tt
+call_moves calls n (Woken v rs) rising =
+    let d : Desk = desk_at n (Woken v rs) in
+    ap (counted 0) (same_either (refusal (world_with calls) d (call.Read (record { 0 = 1 }) 0 16)) d)
+
+-- a call that reads or writes a buffer comes where nothing is called and incomplete
+pub access_is_quiet : (m : Moment) → OnNext (λ c. is_access c ≡ true → called_at m ≡ []) (next_at m)
+access_is_quiet (Between first v []) = tt
+access_is_quiet (Between first v (r ∷ rs)) = λ access. refl
+access_is_quiet (Written first v r rs) = λ access. refl
+access_is_quiet (Begun v r rs) = λ access. refl
+access_is_quiet (Recorded v r rs) = λ access. refl
+access_is_quiet (Ended v r rs) = λ access. refl
+access_is_quiet (Executed busy v r rs) = λ access. absurd (cc)
+access_is_quiet (Signalled f v r rs) = λ access. absurd (cc)
+access_is_quiet (Waits f v r rs) = tt
+access_is_quiet (Woken v rs) = λ access. refl
+
+-- the values still rise behind the next call
+pub call_rises : (m : Moment) → IsRising m → IsRising (after_call m)
+call_rises (Between first v []) rising = rising
+call_rises (Between first v (r ∷ rs)) rising = rising
+call_rises (Written first v r rs) rising = rising
+call_rises (Begun v r rs) rising = rising
+call_rises (Recorded v r rs) rising = rising
+call_rises (Ended v r rs) rising = rising
+call_rises (Executed busy v r rs) rising = rising
+call_rises (Signalled f v r rs) rising = rising
+call_rises (Waits f v r rs) rising = rising
+call_rises (Woken v rs) rising = rising
+
+round_calls : (r : Round) (rs : List Round) → flat_map calls_of (r ∷ rs) ≡ from_write r rs
+unfolding calls_of
+round_calls r rs = refl
+
+-- the first of the calls that are left, and those behind it
+pub record IsNext (m : Moment) (c : Call) (rest : List Call) : Type 0 where
+  pub next : next_at m ≡ Some c
+  pub left : left_at (after_call m) ≡ rest
+
+-- where the thread does not wait, the first call that is left is the next
+pub first_is_next : (m : Moment) (c : Call) (rest : List Call) → waits_at m ≡ None → left_at m ≡ c ∷ rest → IsNext m c rest
+first_is_next (Between first v []) c rest none is = absurd (cc)
+first_is_next (Between first v (r ∷ rs)) c rest none is =
+    let same : from_write r rs ≡ c ∷ rest = sym (round_calls r rs) ∙ is in record { next = cc; left = cc }
+first_is_next (Written first v r rs) c rest none is = record { next = cc; left = cc }
+first_is_next (Begun v r rs) c rest none is = record { next = cc; left = cc }
+first_is_next (Recorded v r rs) c rest none is = record { next = cc; left = cc }
+first_is_next (Ended v r rs) c rest none is = record { next = cc; left = cc }
+first_is_next (Executed busy v r rs) c rest none is = record { next = cc; left = cc }
+first_is_next (Signalled f v r rs) c rest none is = record { next = cc; left = cc }
+first_is_next (Waits f v r rs) c rest none is = absurd (cc)
+first_is_next (Woken v rs) c rest none is = record { next = cc; left = cc }
