@@ -1,5 +1,5 @@
 -- The steps of a run of rounds, from moment to moment.
-use Rattle.std.proofs.Common.{ℕ, ◌≡◌, ◌+◌, ◌<◌, ◌≤◌, ◌==◌, ◌||◌, ◌&&◌, ◌∙◌, nat_le, refl, sym, ap, subst, arith, Bool, true, false, List, [], ◌∷◌, length, slice_get, Option, Some, None}
+use Rattle.std.proofs.Common.{ℕ, ◌≡◌, ◌+◌, ◌<◌, ◌≤◌, ◌==◌, ◌||◌, ◌&&◌, ◌∙◌, nat_le, refl, sym, ap, subst, arith, Bool, true, false, List, [], ◌∷◌, length, Option, Some, None}
 use Rattle.std.specs.Prelude.{nat_lt}
 use Rattle.std.specs.List.{flat_map}
 use Rattle.std.proofs.lemmas.Bool.{le-leb, lt-leb}
@@ -126,3 +126,99 @@ first_is_next (Executed busy v r rs) c rest none is = record { next = cc; left =
 first_is_next (Signalled f v r rs) c rest none is = record { next = cc; left = cc }
 first_is_next (Waits f v r rs) c rest none is = absurd (cc)
 first_is_next (Woken v rs) c rest none is = record { next = cc; left = cc }
+
+busy_completes : (w : World) (n : ℕ) (busy : Bool) (v : ℕ) (r : Round) (rs : List Round) → nat_lt 0 (length (called_busy busy)) ≡ true →
+    desk_after w (desk_at n (Executed busy v r rs)) (event.Queue (record { 0 = 0 })) ≡ desk_at n (Executed false v r rs)
+busy_completes w n true v r rs some = refl
+busy_completes w n false v r rs some = absurd (cc)
+
+signalled_completes : (w : World) (n : ℕ) (f : Flight) (v : ℕ) (r : Round) (rs : List Round) → nat_lt 0 (length (called_in f r.value)) ≡ true →
+    desk_after w (desk_at n (Signalled f v r rs)) (event.Queue (record { 0 = 0 })) ≡ desk_at n (Signalled (less f) v r rs)
+signalled_completes w n Both v r rs some = refl
+signalled_completes w n Last v r rs some = refl
+signalled_completes w n Neither v r rs some = absurd (cc)
+
+waits_completes : (w : World) (n : ℕ) (f : Flight) (v : ℕ) (r : Round) (rs : List Round) → nat_lt 0 (length (called_in f r.value)) ≡ true →
+    desk_after w (desk_at n (Waits f v r rs)) (event.Queue (record { 0 = 0 })) ≡ desk_at n (Waits (less f) v r rs)
+waits_completes w n Both v r rs some = refl
+waits_completes w n Last v r rs some = ap (marked_desk n v r rs Neither) (le-leb r.value r.value (omega arith))
+waits_completes w n Neither v r rs some = absurd (cc)
+
+-- the completion of the oldest operation leads to the moment behind it
+pub queue_moves : (w : World) (n : ℕ) (m : Moment) → nat_lt 0 (length (called_at m)) ≡ true →
+    desk_after w (desk_at n m) (event.Queue (record { 0 = 0 })) ≡ desk_at n (after_queue m)
+queue_moves w n (Between first v rs) some = absurd (cc)
+queue_moves w n (Written first v r rs) some = absurd (cc)
+queue_moves w n (Begun v r rs) some = absurd (cc)
+queue_moves w n (Recorded v r rs) some = absurd (cc)
+queue_moves w n (Ended v r rs) some = absurd (cc)
+queue_moves w n (Executed busy v r rs) some = busy_completes w n busy v r rs some
+queue_moves w n (Signalled f v r rs) some = signalled_completes w n f v r rs some
+queue_moves w n (Waits f v r rs) some = waits_completes w n f v r rs some
+queue_moves w n (Woken v rs) some = absurd (cc)
+
+-- a completion leaves the calls that are left
+pub queue_leaves : (m : Moment) → left_at (after_queue m) ≡ left_at m
+queue_leaves (Between first v rs) = refl
+queue_leaves (Written first v r rs) = refl
+queue_leaves (Begun v r rs) = refl
+queue_leaves (Recorded v r rs) = refl
+queue_leaves (Ended v r rs) = refl
+queue_leaves (Executed busy v r rs) = refl
+queue_leaves (Signalled f v r rs) = refl
+queue_leaves (Waits f v r rs) = refl
+queue_leaves (Woken v rs) = refl
+
+-- the values still rise behind a completion
+pub queue_rises : (m : Moment) → IsRising m → IsRising (after_queue m)
+queue_rises (Between first v rs) rising = rising
+queue_rises (Written first v r rs) rising = rising
+queue_rises (Begun v r rs) rising = rising
+queue_rises (Recorded v r rs) rising = rising
+queue_rises (Ended v r rs) rising = rising
+queue_rises (Executed busy v r rs) rising = rising
+queue_rises (Signalled f v r rs) rising = rising
+queue_rises (Waits f v r rs) rising = rising
+queue_rises (Woken v rs) rising = rising
+
+awake_met : (n : ℕ) (f : Flight) (v : ℕ) (r : Round) (rs : List Round) → is_through f ≡ true →
+    woken 0 (desk_at n (Waits f v r rs)) ≡ desk_at n (Woken r.value rs)
+awake_met n Both v r rs met = absurd (cc)
+awake_met n Last v r rs met = absurd (cc)
+awake_met n Neither v r rs met = refl
+
+-- the waking of the thread leads to the moment behind it
+pub awake_moves : (n : ℕ) (m : Moment) → is_marked (waits_at m) ≡ true → woken 0 (desk_at n m) ≡ desk_at n (after_awake m)
+awake_moves n (Between first v rs) met = absurd (cc)
+awake_moves n (Written first v r rs) met = absurd (cc)
+awake_moves n (Begun v r rs) met = absurd (cc)
+awake_moves n (Recorded v r rs) met = absurd (cc)
+awake_moves n (Ended v r rs) met = absurd (cc)
+awake_moves n (Executed busy v r rs) met = absurd (cc)
+awake_moves n (Signalled f v r rs) met = absurd (cc)
+awake_moves n (Waits f v r rs) met = awake_met n f v r rs met
+awake_moves n (Woken v rs) met = absurd (cc)
+
+-- a waking leaves the calls that are left
+pub awake_leaves : (m : Moment) → left_at (after_awake m) ≡ left_at m
+awake_leaves (Between first v rs) = refl
+awake_leaves (Written first v r rs) = refl
+awake_leaves (Begun v r rs) = refl
+awake_leaves (Recorded v r rs) = refl
+awake_leaves (Ended v r rs) = refl
+awake_leaves (Executed busy v r rs) = refl
+awake_leaves (Signalled f v r rs) = refl
+awake_leaves (Waits f v r rs) = refl
+awake_leaves (Woken v rs) = refl
+
+-- the values still rise behind a waking
+pub awake_rises : (m : Moment) → IsRising m → IsRising (after_awake m)
+awake_rises (Between first v rs) rising = rising
+awake_rises (Written first v r rs) rising = rising
+awake_rises (Begun v r rs) rising = rising
+awake_rises (Recorded v r rs) rising = rising
+awake_rises (Ended v r rs) rising = rising
+awake_rises (Executed busy v r rs) rising = rising
+awake_rises (Signalled f v r rs) rising = rising
+awake_rises (Waits f v r rs) rising = rising.1
+awake_rises (Woken v rs) rising = rising

@@ -20,3 +20,4 @@ pub mod NoQueue
 pub mod Whole
 pub mod Threading
 pub mod FormRuns
+pub mod Rounds
