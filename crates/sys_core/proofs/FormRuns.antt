@@ -1,9 +1,10 @@
 -- The steps of a run of rounds, from moment to moment.
-use Rattle.std.proofs.Common.{ℕ, ◌≡◌, ◌+◌, ◌<◌, ◌≤◌, ◌==◌, ◌||◌, ◌&&◌, ◌∙◌, nat_le, refl, sym, ap, subst, arith, Bool, true, false, List, [], ◌∷◌, length, Option, Some, None}
-use Rattle.std.specs.Prelude.{nat_lt}
+use Rattle.std.proofs.Common.{ℕ, ◌≡◌, ◌*◌, ◌+◌, ◌<◌, ◌≤◌, ◌==◌, ◌||◌, ◌&&◌, ◌∙◌, nat_le, refl, sym, ap, subst, arith, Bool, true, false, List, [], ◌∷◌, length, Option, Some, None}
+use Rattle.std.specs.Prelude.{nat_lt, not}
 use Rattle.std.specs.List.{flat_map}
 use Rattle.std.proofs.lemmas.Bool.{le-leb, lt-leb}
 use Rattle.dx_base.specs.declared.hresult.Hresult.{Hresult}
+use Rattle.dx_base.specs.declared.hresult.Hresult.TheVariants.{InvalidArg}
 use Rattle.d3d_machine.specs.declared.world.World.{World}
 use Rattle.d3d_machine.specs.declared.calls.Call.{Call}
 use Rattle.d3d_machine.specs.declared.calls.Call.TheVariants as call
@@ -11,7 +12,8 @@ use Rattle.d3d_machine.specs.declared.events.Event.TheVariants as event
 use Rattle.d3d_machine.specs.declared.events.Listed.{Listed}
 use Rattle.d3d_machine.specs.declared.events.ListState.TheVariants as state
 use Rattle.d3d_machine.specs.State.{Waiting, Desk, declared_list}
-use Rattle.d3d_machine.specs.Replies.{refusal}
+use Rattle.d3d_machine.specs.World.{is_upload, is_inside, words_in}
+use Rattle.d3d_machine.specs.Replies.{refusal, refuse_if}
 use Rattle.d3d_machine.specs.Effects.{desk_after, desk_after_call, desk_or, counted, woken}
 use Rattle.d3d_machine.specs.Play.{is_marked}
 use Rattle.trace_text.specs.declared.round.Round.{Round}
@@ -72,7 +74,7 @@ call_moves calls n (Begun v r rs) rising = refl
 call_moves calls n (Recorded v r rs) rising = refl
 call_moves calls n (Ended v r rs) rising = refl
 call_moves calls n (Executed busy v r rs) rising = signal_call calls n busy v r rs
-call_moves calls n (Signalled f v r rs) rising = ap (marked_desk (n + 1) v r rs f) (reached f v r.value rising.0)
+call_moves calls n (Signalled f v r rs) rising = ap (marked_desk (n + 1) v r rs f) (reached f v r.value rising.0.above)
 call_moves calls n (Waits f v r rs) rising = tt
 call_moves calls n (Woken v rs) rising =
     let d : Desk = desk_at n (Woken v rs) in
@@ -90,6 +92,30 @@ access_is_quiet (Executed busy v r rs) = λ access. absurd (cc)
 access_is_quiet (Signalled f v r rs) = λ access. absurd (cc)
 access_is_quiet (Waits f v r rs) = tt
 access_is_quiet (Woken v rs) = λ access. refl
+
+-- the write of four words is not refused
+good_write : (calls : List Call) (d : Desk) (r : Round) → length r.words ≡ 4 → refusal (world_with calls) d (call.Write (record { 0 = 0 }) 0 r.words) ≡ None
+good_write calls d r four =
+    let w : World = world_with calls in
+    ap (λ k. refuse_if (not (is_upload w 0 && is_inside (words_in w 0) 0 (4 * k))) InvalidArg None) four
+
+good_reset : (calls : List Call) (n : ℕ) (first : Bool) (v : ℕ) (r : Round) (rs : List Round) →
+    refusal (world_with calls) (desk_at n (Written first v r rs)) (call.Reset (record { 0 = 0 }) (record { 0 = 0 })) ≡ None
+good_reset calls n true v r rs = refl
+good_reset calls n false v r rs = refl
+
+-- the next call is not refused
+pub call_is_good : (calls : List Call) (n : ℕ) (m : Moment) → IsRising m → OnNext (λ c. refusal (world_with calls) (desk_at n m) c ≡ None) (next_at m)
+call_is_good calls n (Between first v []) rising = tt
+call_is_good calls n (Between first v (r ∷ rs)) rising = good_write calls (desk_at n (Between first v (r ∷ rs))) r rising.0.four
+call_is_good calls n (Written first v r rs) rising = good_reset calls n first v r rs
+call_is_good calls n (Begun v r rs) rising = refl
+call_is_good calls n (Recorded v r rs) rising = refl
+call_is_good calls n (Ended v r rs) rising = refl
+call_is_good calls n (Executed busy v r rs) rising = refl
+call_is_good calls n (Signalled f v r rs) rising = refl
+call_is_good calls n (Waits f v r rs) rising = tt
+call_is_good calls n (Woken v rs) rising = refl
 
 -- the values still rise behind the next call
 pub call_rises : (m : Moment) → IsRising m → IsRising (after_call m)

@@ -1,5 +1,5 @@
 -- The moments of a run of rounds: where the one thread stands, and what the one queue has yet to complete.
-use Rattle.std.specs.Prelude.{ℕ, ◌≡◌, ◌+◌, ◌<◌, List, [], ◌∷◌, Option, Some, None, Bool, true, false}
+use Rattle.std.specs.Prelude.{ℕ, ◌≡◌, ◌<◌, List, [], ◌∷◌, length, Option, Some, None, Bool, true, false}
 use Rattle.std.specs.List.{flat_map}
 use Rattle.d3d_machine.specs.declared.calls.Call.{Call}
 use Rattle.d3d_machine.specs.declared.calls.Call.TheVariants as call
@@ -227,10 +227,15 @@ desk_at n m = record {
   threads = (record { made = n; waits = waits_at m }) ∷ [];
 }
 
--- each round has a value above that of the round before, the first above that value
+-- a round has a value above that of the round before, and four words
+pub record IsRoundAbove (v : ℕ) (r : Round) : Type 0 where
+  pub above : v < r.value
+  pub four : length r.words ≡ 4
+
+-- each round has four words, and a value above that of the round before; the first round, above that value
 abbrev pub AreRising : ℕ → List Round → Type 0
 AreRising v [] = Unit {0}
-AreRising v (r ∷ rs) = (v < r.value) × AreRising r.value rs
+AreRising v (r ∷ rs) = IsRoundAbove v r × AreRising r.value rs
 
 -- the values rise from that of the fence before the round
 abbrev pub IsRising : Moment → Type 0
