@@ -21,3 +21,4 @@ pub mod Whole
 pub mod Threading
 pub mod FormRuns
 pub mod Rounds
+pub mod RoundsRise
