@@ -130,7 +130,8 @@ call_rises (Signalled f v r rs) rising = rising
 call_rises (Waits f v r rs) rising = rising
 call_rises (Woken v rs) rising = rising
 
-round_calls : (r : Round) (rs : List Round) → flat_map calls_of (r ∷ rs) ≡ from_write r rs
+-- the calls of a round and those behind it
+pub round_calls : (r : Round) (rs : List Round) → flat_map calls_of (r ∷ rs) ≡ from_write r rs
 unfolding calls_of
 round_calls r rs = refl
 

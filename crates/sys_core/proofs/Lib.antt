@@ -22,3 +22,4 @@ pub mod Threading
 pub mod FormRuns
 pub mod Rounds
 pub mod RoundsRise
+pub mod Forms

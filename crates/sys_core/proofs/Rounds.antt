@@ -42,7 +42,7 @@ next_dropped (d ∷ cs) (suc n) c is =
     next_dropped cs n c is ∙ ap (λ k. c ∷ drop k (d ∷ cs)) one
 
 -- a call that may come is the first of those that are left
-comes_next : (calls : List Call) (n : ℕ) (m : Moment) (c : Call) → drop n calls ≡ left_at m → waits_at m ≡ None → slice_get calls n ≡ Some c →
+pub comes_next : (calls : List Call) (n : ℕ) (m : Moment) (c : Call) → drop n calls ≡ left_at m → waits_at m ≡ None → slice_get calls n ≡ Some c →
     IsNext m c (drop (n + 1) calls)
 comes_next calls n m c left none is = first_is_next m c (drop (n + 1) calls) none (sym left ∙ next_dropped calls n c is)
 

@@ -1,6 +1,7 @@
 -- The moments of a run of rounds: where the one thread stands, and what the one queue has yet to complete.
-use Rattle.std.specs.Prelude.{ℕ, ◌≡◌, ◌<◌, List, [], ◌∷◌, length, Option, Some, None, Bool, true, false}
+use Rattle.std.specs.Prelude.{ℕ, ◌≡◌, ◌<◌, ◌⊎◌, List, [], ◌∷◌, length, Option, Some, None, Bool, true, false}
 use Rattle.std.specs.List.{flat_map}
+use Rattle.d3d_machine.specs.declared.world.World.{World}
 use Rattle.d3d_machine.specs.declared.calls.Call.{Call}
 use Rattle.d3d_machine.specs.declared.calls.Call.TheVariants as call
 use Rattle.d3d_machine.specs.declared.calls.Record.{Record}
@@ -11,10 +12,12 @@ use Rattle.d3d_machine.specs.declared.events.ListState.TheVariants as state
 use Rattle.d3d_machine.specs.declared.events.Command.{Command}
 use Rattle.d3d_machine.specs.declared.events.Operation.{Operation}
 use Rattle.d3d_machine.specs.declared.events.Operation.TheVariants as operation
-use Rattle.d3d_machine.specs.State.{Waiting, Desk, declared_list}
+use Rattle.d3d_machine.specs.State.{Waiting, Desk, declared_list, script_of, place_of, called_of}
 use Rattle.d3d_machine.specs.Effects.{begun}
+use Rattle.d3d_machine.specs.Play.{IsFinished}
 use Rattle.trace_text.specs.declared.round.Round.{Round}
 use Rattle.trace_text.specs.Round.{calls_of}
+use Rattle.sys_core.specs.Steps.{is_ready_place}
 
 -- the copy of a round
 abbrev pub copied : Record
@@ -248,3 +251,10 @@ IsRising (Executed busy v r rs) = AreRising v (r ∷ rs)
 IsRising (Signalled f v r rs) = AreRising v (r ∷ rs)
 IsRising (Waits f v r rs) = AreRising v (r ∷ rs)
 IsRising (Woken v rs) = AreRising v rs
+
+-- a run goes on: all is finished, or a thread is ready, or a queue has an operation that is not complete
+abbrev pub GoesOn : World → Desk → Type 0
+GoesOn w d =
+    IsFinished w d
+    ⊎ (((t : ℕ) × (t < length w.scripts) × (is_ready_place (script_of w t) (place_of d t) ≡ true))
+    ⊎ ((q : ℕ) × (q < length w.queues) × (0 < length (called_of d q))))
