@@ -1,5 +1,5 @@
 -- The steps of a run of rounds, from moment to moment.
-use Rattle.std.proofs.Common.{ℕ, ◌≡◌, ◌*◌, ◌+◌, ◌<◌, ◌≤◌, ◌==◌, ◌||◌, ◌&&◌, ◌∙◌, nat_le, refl, sym, ap, subst, arith, Bool, true, false, List, [], ◌∷◌, length, Option, Some, None}
+use Rattle.std.proofs.Common.{ℕ, ◌≡◌, ◌*◌, ◌+◌, ◌<◌, ◌&&◌, ◌∙◌, nat_le, refl, sym, ap, subst, arith, Bool, true, false, List, [], ◌∷◌, length, Option, Some, None}
 use Rattle.std.specs.Prelude.{nat_lt, not}
 use Rattle.std.specs.List.{flat_map}
 use Rattle.std.proofs.lemmas.Bool.{le-leb, lt-leb}
@@ -9,9 +9,7 @@ use Rattle.d3d_machine.specs.declared.world.World.{World}
 use Rattle.d3d_machine.specs.declared.calls.Call.{Call}
 use Rattle.d3d_machine.specs.declared.calls.Call.TheVariants as call
 use Rattle.d3d_machine.specs.declared.events.Event.TheVariants as event
-use Rattle.d3d_machine.specs.declared.events.Listed.{Listed}
-use Rattle.d3d_machine.specs.declared.events.ListState.TheVariants as state
-use Rattle.d3d_machine.specs.State.{Waiting, Desk, declared_list}
+use Rattle.d3d_machine.specs.State.{Desk}
 use Rattle.d3d_machine.specs.World.{is_upload, is_inside, words_in}
 use Rattle.d3d_machine.specs.Replies.{refusal, refuse_if}
 use Rattle.d3d_machine.specs.Effects.{desk_after, desk_after_call, desk_or, counted, woken}
@@ -20,7 +18,7 @@ use Rattle.trace_text.specs.declared.round.Round.{Round}
 use Rattle.trace_text.specs.Round.{calls_of}
 use Rattle.trace_text.specs.Form.{world_with}
 use Rattle.sys_core.specs.Ahead.{is_access}
-use Rattle.sys_core.specs.FormRuns.{Flight, Both, Last, Neither, Moment, Between, Written, Begun, Recorded, Ended, Executed, Signalled, Waits, Woken, from_write, left_at, next_at, signals, after_call, less, after_queue, after_awake, value_in, value_at, called_busy, called_in, called_at, list_copied, list_between, list_at, is_through, waits_at, desk_at, AreRising, IsRising}
+use Rattle.sys_core.specs.FormRuns.{Flight, Both, Last, Neither, Moment, Between, Written, Begun, Recorded, Ended, Executed, Signalled, Waits, Woken, from_write, left_at, next_at, signals, after_call, less, after_queue, after_awake, value_in, called_busy, called_in, called_at, is_through, waits_at, desk_at, IsRising}
 
 -- a fact of the next call, where there is one
 abbrev pub OnNext : (Call → Type 0) → Option Call → Type 0

@@ -1,5 +1,5 @@
 -- Runs of a world of the form: host accesses are quiet, calls are not refused, and the machine is never stuck.
-use Rattle.std.proofs.Common.{ℕ, zero, suc, ◌≡◌, ◌+◌, ◌-◌, ◌<◌, ◌≤◌, ◌∙◌, refl, sym, ap, subst, arith, lit≤, Bool, true, false, List, [], ◌∷◌, ◌++◌, length, drop, Option, Some, None, ◌⊎◌, inl, inr}
+use Rattle.std.proofs.Common.{ℕ, zero, suc, ◌≡◌, ◌+◌, ◌<◌, ◌≤◌, ◌∙◌, refl, sym, ap, subst, arith, lit≤, Bool, true, List, [], ◌∷◌, ◌++◌, length, drop, Some, None, ◌⊎◌, inl, inr}
 use Rattle.std.specs.Prelude.{nat_lt}
 use Rattle.std.specs.List.{flat_map}
 use Rattle.std.proofs.lemmas.Bool.{lt-ltb}
@@ -10,15 +10,16 @@ use Rattle.d3d_machine.specs.declared.calls.Call.{Call}
 use Rattle.d3d_machine.specs.declared.calls.Reply.{Reply}
 use Rattle.d3d_machine.specs.declared.events.Event.{Event}
 use Rattle.d3d_machine.specs.declared.events.Event.TheVariants as event
-use Rattle.d3d_machine.specs.State.{Desk, State, place_of, called_of, next_call, script_of}
+use Rattle.d3d_machine.specs.State.{Desk, State, first_state, place_of, called_of, next_call, script_of}
 use Rattle.d3d_machine.specs.Replies.{refusal}
-use Rattle.d3d_machine.specs.Play.{May, SameButWords, IsRunButWords, IsFinished, state_after}
+use Rattle.d3d_machine.specs.Effects.{after, after_all}
+use Rattle.d3d_machine.specs.Play.{May, Plays, SameButWords, IsRunButWords, IsFinished, state_after}
 use Rattle.trace_text.specs.declared.round.Round.{Round}
 use Rattle.trace_text.specs.Round.{calls_of}
 use Rattle.trace_text.specs.Form.{world_with, world_of_rounds, world_of}
 use Rattle.sys_core.specs.Ahead.{AreHostAccessesQuiet}
 use Rattle.sys_core.specs.Steps.{is_ready_thread, is_ready_place}
-use Rattle.sys_core.specs.FormRuns.{Flight, Both, Last, Neither, Moment, Between, Written, Begun, Recorded, Ended, Executed, Signalled, Waits, Woken, from_write, left_at, next_at, called_at, waits_at, desk_at, AreRising, IsRising, GoesOn}
+use Rattle.sys_core.specs.FormRuns.{Flight, Both, Last, Neither, Moment, Between, Written, Begun, Recorded, Ended, Executed, Signalled, Waits, Woken, left_at, next_at, called_at, waits_at, desk_at, AreRising, IsRising, GoesOn}
 use Rattle.sys_core.proofs.FormRuns.{on_next, IsNext, call_is_good, round_calls}
 use Rattle.sys_core.proofs.Rounds.{IsAt, comes_next, run_is_at, rounds_are_quiet}
 use Rattle.sys_core.proofs.RoundsRise.{IsOfRounds, world_has_rounds}
@@ -122,3 +123,23 @@ form_is_good text w h t c r form run may =
     let of : IsOfRounds w = world_has_rounds text w form in
     subst (λ x. IsRunButWords x h → May SameButWords x (state_after x h) (event.Call t c r) → refusal x (state_after x h).desk c ≡ None) of.world
       (λ runs comes. rounds_are_good of.rounds h t c r of.rising runs comes) run may
+
+-- an event inside a play could come, behind the events before it
+pub record CouldCome (Same : Reply → Reply → Type 0) (w : World) (s : State) (before : List Event) (e : Event) : Type 0 where
+  pub plays : Plays Same w s before
+  pub may : May Same w (after_all w s before) e
+
+-- each event of a play could come
+pub could_come : (Same : Reply → Reply → Type 0) (w : World) (s : State) (before : List Event) (e : Event) (behind : List Event) →
+    Plays Same w s (before ++ e ∷ behind) → CouldCome Same w s before e
+could_come Same w s [] e behind plays = record { plays = tt; may = plays.0 }
+could_come Same w s (d ∷ before) e behind plays =
+    let more : CouldCome Same w (after w s d) before e = could_come Same w (after w s d) before e behind plays.1 in
+    record { plays = (plays.0, more.plays); may = more.may }
+
+-- no call of a run of a world of the form was refused
+pub form_was_good : (text : List ℕ) (w : World) (before : List Event) (t : ThreadId) (c : Call) (r : Reply) (behind : List Event) → world_of text ≡ Some w →
+    IsRunButWords w (before ++ event.Call t c r ∷ behind) → refusal w (state_after w before).desk c ≡ None
+form_was_good text w before t c r behind form run =
+    let came : CouldCome SameButWords w (first_state w) before (event.Call t c r) = could_come SameButWords w (first_state w) before (event.Call t c r) behind run in
+    form_is_good text w before t c r form came.plays came.may

@@ -1,27 +1,25 @@
 -- In a run of rounds each state is a moment: host accesses come where nothing is called and incomplete, and
 -- until all is finished the thread or the queue can go on.
-use Rattle.std.proofs.Common.{ℕ, zero, suc, ◌≡◌, ◌+◌, ◌<◌, ◌≤◌, ◌∙◌, refl, sym, ap, subst, arith, Bool, true, false, List, [], ◌∷◌, ◌++◌, length, drop, slice_get, Option, Some, None, ◌⊎◌, inl, inr}
+use Rattle.std.proofs.Common.{ℕ, zero, suc, ◌≡◌, ◌+◌, ◌≤◌, ◌∙◌, refl, sym, ap, subst, arith, true, List, [], ◌∷◌, length, drop, slice_get, Option, Some, None}
 use Rattle.std.specs.Prelude.{nat_lt}
 use Rattle.std.specs.List.{flat_map}
-use Rattle.std.specs.Option.{option_map}
 use Rattle.std.proofs.lemmas.Option.{slice_get_within}
 use Rattle.dx_base.specs.declared.hresult.Hresult.{Hresult}
 use Rattle.d3d_machine.specs.declared.world.World.{World}
 use Rattle.d3d_machine.specs.declared.calls.Call.{Call}
 use Rattle.d3d_machine.specs.declared.events.Event.{Event}
 use Rattle.d3d_machine.specs.declared.events.Event.TheVariants as event
-use Rattle.d3d_machine.specs.State.{Desk, State, first_state, place_of, called_of, next_call, script_of}
+use Rattle.d3d_machine.specs.State.{Desk, State, place_of, called_of, next_call}
 use Rattle.d3d_machine.specs.Replies.{refusal}
 use Rattle.d3d_machine.specs.Effects.{after, desk_after, desk_after_call, woken}
-use Rattle.d3d_machine.specs.Play.{May, SameButWords, IsRunButWords, IsFinished, state_after, is_marked}
+use Rattle.d3d_machine.specs.Play.{May, SameButWords, IsRunButWords, state_after, is_marked}
 use Rattle.d3d_machine.proofs.Runs.{run_induction, state_after_append}
 use Rattle.trace_text.specs.declared.round.Round.{Round}
 use Rattle.trace_text.specs.Round.{calls_of}
-use Rattle.trace_text.specs.Form.{world_with, world_of_rounds, world_of, rounds_in}
+use Rattle.trace_text.specs.Form.{world_with, world_of_rounds}
 use Rattle.sys_core.specs.Ahead.{IsQuiet, is_access, is_good_access, is_host_access, AreHostAccessesQuiet}
-use Rattle.sys_core.specs.Steps.{is_ready_thread, is_ready_place}
-use Rattle.sys_core.specs.FormRuns.{Moment, Between, Written, Begun, Recorded, Ended, Executed, Signalled, Waits, Woken, left_at, next_at, after_call, after_queue, after_awake, called_at, waits_at, desk_at, AreRising, IsRising}
-use Rattle.sys_core.proofs.FormRuns.{OnNext, on_next, call_moves, access_is_quiet, call_rises, IsNext, first_is_next, queue_moves, queue_leaves, queue_rises, awake_moves, awake_leaves, awake_rises}
+use Rattle.sys_core.specs.FormRuns.{Moment, Between, left_at, next_at, after_call, after_queue, after_awake, called_at, waits_at, desk_at, AreRising, IsRising}
+use Rattle.sys_core.proofs.FormRuns.{on_next, call_moves, access_is_quiet, call_rises, IsNext, first_is_next, queue_moves, queue_leaves, queue_rises, awake_moves, awake_leaves, awake_rises}
 use Rattle.sys_core.proofs.Whole.{quiet_append}
 
 -- a desk at a moment, with the calls of the script that are behind those made

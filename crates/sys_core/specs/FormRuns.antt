@@ -9,7 +9,6 @@ use Rattle.d3d_machine.specs.declared.calls.Record.TheVariants.{Copy}
 use Rattle.d3d_machine.specs.declared.events.Listed.{Listed}
 use Rattle.d3d_machine.specs.declared.events.ListState.{ListState}
 use Rattle.d3d_machine.specs.declared.events.ListState.TheVariants as state
-use Rattle.d3d_machine.specs.declared.events.Command.{Command}
 use Rattle.d3d_machine.specs.declared.events.Operation.{Operation}
 use Rattle.d3d_machine.specs.declared.events.Operation.TheVariants as operation
 use Rattle.d3d_machine.specs.State.{Waiting, Desk, declared_list, script_of, place_of, called_of}
@@ -23,28 +22,35 @@ use Rattle.sys_core.specs.Steps.{is_ready_place}
 abbrev pub copied : Record
 copied = Copy (record { 0 = 1 }) 0 (record { 0 = 0 }) 0 16
 
--- the calls of a round, from each of them on
+-- the read of a round, and the calls behind it
 abbrev pub from_read : List Round → List Call
 from_read rs = call.Read (record { 0 = 1 }) 0 16 ∷ flat_map calls_of rs
 
+-- the wait, and the calls behind it
 abbrev pub from_wait : Round → List Round → List Call
 from_wait r rs = call.HostWait (record { 0 = 0 }) r.value ∷ from_read rs
 
+-- the signal, and the calls behind it
 abbrev pub from_signal : Round → List Round → List Call
 from_signal r rs = call.Signal (record { 0 = 0 }) (record { 0 = 0 }) r.value ∷ from_wait r rs
 
+-- the execute, and the calls behind it
 abbrev pub from_execute : Round → List Round → List Call
 from_execute r rs = call.Execute (record { 0 = 0 }) ((record { 0 = 0 }) ∷ []) ∷ from_signal r rs
 
+-- the close, and the calls behind it
 abbrev pub from_close : Round → List Round → List Call
 from_close r rs = call.Close (record { 0 = 0 }) ∷ from_execute r rs
 
+-- the recording of the copy, and the calls behind it
 abbrev pub from_copy : Round → List Round → List Call
 from_copy r rs = call.Recording (record { 0 = 0 }) copied ∷ from_close r rs
 
+-- the reset, and the calls behind it
 abbrev pub from_reset : Round → List Round → List Call
 from_reset r rs = call.Reset (record { 0 = 0 }) (record { 0 = 0 }) ∷ from_copy r rs
 
+-- the write, and the calls behind it: those of a whole round
 abbrev pub from_write : Round → List Round → List Call
 from_write r rs = call.Write (record { 0 = 0 }) 0 r.words ∷ from_reset r rs
 
@@ -54,8 +60,9 @@ pub data Flight : Type 0 where
   Last : Flight
   Neither : Flight
 
--- a moment: the last call of the round that was made, and behind the execute what is incomplete; with the fence's
--- value before the round, the round, and the rounds behind it. The mark of the first two tells whether no round was before
+-- a moment: what the thread did last, with the fence's value, the round, and the rounds behind it. Behind the signal's
+-- call the value is the one before the round. The first mark tells that no list was recorded yet, the other that the
+-- execute is incomplete
 pub data Moment : Type 0 where
   Between : Bool → ℕ → List Round → Moment
   Written : Bool → ℕ → Round → List Round → Moment
@@ -140,12 +147,13 @@ after_awake (Signalled f v r rs) = Signalled f v r rs
 after_awake (Waits f v r rs) = Woken r.value rs
 after_awake (Woken v rs) = Woken v rs
 
--- the fence's value: that of the round where its signal is complete
+-- the fence's value in a round: that of the round where its signal is complete
 abbrev pub value_in : Flight → ℕ → ℕ → ℕ
 value_in Both before v = before
 value_in Last before v = before
 value_in Neither before v = v
 
+-- the fence's value
 abbrev pub value_at : Moment → ℕ
 value_at (Between first v rs) = v
 value_at (Written first v r rs) = v
@@ -161,16 +169,18 @@ value_at (Woken v rs) = v
 abbrev pub execute_copy : Operation
 execute_copy = operation.Execute ((record { what = copied }) ∷ [])
 
--- the called and incomplete operations
+-- the called and incomplete operations before the signal is called: the execute, where it is incomplete
 abbrev pub called_busy : Bool → List Operation
 called_busy true = execute_copy ∷ []
 called_busy false = []
 
+-- the called and incomplete operations behind the signal's call
 abbrev pub called_in : Flight → ℕ → List Operation
 called_in Both v = execute_copy ∷ operation.Signal (record { 0 = 0 }) v ∷ []
 called_in Last v = operation.Signal (record { 0 = 0 }) v ∷ []
 called_in Neither v = []
 
+-- the called and incomplete operations
 abbrev pub called_at : Moment → List Operation
 called_at (Between first v rs) = []
 called_at (Written first v r rs) = []
