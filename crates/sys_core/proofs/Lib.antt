@@ -22,3 +22,8 @@ pub mod Threading
 pub mod Waiting
 pub mod Progress
 pub mod WorkerStep
+pub mod FormRuns
+pub mod Rounds
+pub mod RoundsRise
+pub mod Forms
+pub mod DeviceStep

@@ -9,3 +9,4 @@ pub mod Serving
 pub mod Work
 pub mod Keeps
 pub mod Ahead
+pub mod FormRuns

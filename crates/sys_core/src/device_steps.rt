@@ -7,12 +7,17 @@ ghost use Rattle.sys_core.specs.Steps.{step_events, IsDeviceStep};
 ghost use Rattle.sys_core.specs.Serving.{HasCause};
 ghost use Rattle.sys_core.specs.Keeps.{Keeps};
 ghost use Rattle.vk_port.specs.Offers.{steps_offered};
+ghost use Rattle.vk_port.specs.Enabled.{enabled_steps};
+ghost use Rattle.sys_core.specs.declared.parts.Held.{Held};
 
 use crate::faults::SysFault;
 use crate::parts::{Held, Parts, Signalled};
 use d3d_machine::{Event, World};
 use dx_base::{Memory, QueueId, Room, Seq};
 use vk_port::{NoSets, Stepped, VkDevice};
+
+/// The place of the one queue.
+const ONE_QUEUE: usize = 0;
 
 /// The first submitted signal of a queue, where its operation has that number, is taken out.
 fn take_signal(held: &mut Held, number: u64) -> Option<Signalled>
@@ -52,5 +57,53 @@ fn update(fences: &mut Seq<Room<u64>>, signal: Signalled)
     let at = signal.fence.0 as usize;
     if at < fences.len() {
         fences.at_mut(at).push_reserved(signal.value);
+    }
+}
+
+/// The end of an operation's batch: where the operation was the first submitted signal, its fence takes
+/// the value. There is room for it.
+#[tactic(auto, using(dx_base::proofs::Lists::map_write))]
+fn complete(parts: &mut Parts, queue: u32, number: u64)
+    requires queue { queue < length parts.old.held }
+    requires room { (held : Held) → slice_get parts.old.held queue ≡ Some held → HasRoomFor (first_signal (queued held)) parts.old.fences }
+    ensures lists { parts.new.lists ≡ parts.old.lists }
+    ensures seats { parts.new.seats ≡ parts.old.seats }
+    ensures fences { (held : Held) → slice_get parts.old.held queue ≡ Some held → map updates_in parts.new.fences ≡ updated_by (signal_at number (queued held)) (map updates_in parts.old.fences) }
+    ensures held { (held : Held) → slice_get parts.old.held queue ≡ Some held → map queued parts.new.held ≡ changed_at (without (signal_at number (queued held))) queue (map queued parts.old.held) }
+{
+    match take_signal(parts.held.at_mut(queue as usize), number) {
+        Some(signal) => update(&mut parts.fences, signal),
+        None => (),
+    }
+}
+
+/// A step of the device. Refused, all stays but room.
+pub(crate) fn device_step<D: VkDevice>(world: &World, history: &mut Room<Event>, parts: &mut Parts, device: &mut D, k: usize) -> Result<(), SysFault>
+    requires keeps { Keeps D.state D.plan_of world.now history.old.items parts.old device.old }
+    requires offered { k < steps_offered (D.state device.old) (D.offered device.old) }
+    ensures keeps { Keeps D.state D.plan_of world.now history.new.items parts.new device.new }
+    ensures step { OnOk result (IsDeviceStep history.old.items history.new.items (D.state device.old) (D.state device.new) k) }
+    ensures rest { OnOk result (length (enabled_steps (D.state device.old)) ≤ k → D.rest_of device.old ≡ D.rest_of device.new + 1) }
+    ensures rest_falls { D.rest_of device.new ≤ D.rest_of device.old }
+    ensures same { OnErr result (history.new.items ≡ history.old.items) }
+    ensures same_state { OnErr result (D.state device.new ≡ D.state device.old) }
+    ensures faults { D.faults device.old ≤ D.faults device.new }
+    ensures cause { HasCause (D.faults device.old) (D.faults device.new) result }
+{
+    let _queues = world.queues.len();
+    history.reserve()?;
+    reserve_update(parts.held.at(ONE_QUEUE), &mut parts.fences)?;
+    match device.step(k, &mut NoSets)? {
+        Stepped::Passed(_, _) => Ok(()),
+        Stepped::Ran(_, _, _) => Ok(()),
+        Stepped::Bumped(queue, number) => {
+            if number == 0 {
+                return Ok(());
+            }
+            complete(parts, queue, number);
+            history.push_reserved(Event::Queue(QueueId(queue)));
+            Ok(())
+        }
+        Stepped::Free => Ok(()),
     }
 }

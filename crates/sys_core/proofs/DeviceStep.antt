@@ -1,0 +1,130 @@
+-- What a step of the device needs, and what it leaves.
+use Rattle.std.proofs.Common.{ℕ, zero, suc, ◌≡◌, ◌<◌, ◌≤◌, ◌+◌, ◌-◌, ◌∙◌, sym, ap, subst, refl, arith, List, [], ◌∷◌, ◌++◌, length, map, drop, Some, None, Option, Bool, true, false, get_or, set, cond, append-nil, ◌⊎◌, inl, inr}
+use Rattle.std.proofs.lemmas.List.{length-map}
+use Rattle.std.proofs.lemmas.Option.{slice_get_within, slice_get-map, slice_get_read}
+use Rattle.std.proofs.lemmas.Bool.{eqb-true}
+use Rattle.std.proofs.lemmas.Bool.Decides.{eqb_tells, leb_tells}
+use Rattle.std.specs.List.{slice_get}
+use Rattle.std.specs.Option.{option_map}
+use Rattle.std.specs.Prelude.{◌==◌, if◌then◌else◌}
+use Rattle.dx_base.specs.Lists.{changed_at}
+use Rattle.dx_base.specs.declared.ids.QueueId.{QueueId}
+use Rattle.d3d_machine.specs.declared.world.World.{World}
+use Rattle.d3d_machine.specs.declared.events.Event.{Event}
+use Rattle.d3d_machine.specs.declared.events.Event.TheVariants as event
+use Rattle.vk_port.specs.declared.plan.DevicePlan.{DevicePlan}
+use Rattle.vk_port.specs.declared.steps.Stepped.{Stepped}
+use Rattle.vk_port.specs.declared.steps.Stepped.TheVariants.{Passed, Ran, Bumped, Free}
+use Rattle.vk_port.specs.Enabled.{enabled_steps}
+use Rattle.vk_port.specs.Meaning.{IsEnabled}
+use Rattle.vk_port.specs.VkState.{VkState}
+use Rattle.vk_port.specs.After.{after_step}
+use Rattle.vk_port.proofs.Enabled.{enabled_means}
+use Rattle.sys_core.specs.declared.parts.Held.{Held}
+use Rattle.sys_core.specs.declared.parts.Parts.{Parts}
+use Rattle.sys_core.specs.Parts.{Queued, queued, updates_in, signal_at, without, updated_by}
+use Rattle.sys_core.specs.Steps.{step_events, IsDeviceStep}
+use Rattle.sys_core.specs.Consistent.{IsConsistent}
+use Rattle.sys_core.specs.Keeps.{Keeps}
+use Rattle.sys_core.proofs.Bumping.{consistent_pass, consistent_run, consistent_start, consistent_end}
+
+-- the step that was answered is one that can be taken, or free
+pub step_means : (v : VkState) (k : ℕ) (s : Stepped) → (k < length (enabled_steps v) → slice_get (enabled_steps v) k ≡ Some s) →
+    (length (enabled_steps v) ≤ k → s ≡ Free) → IsEnabled v s ⊎ (s ≡ Free)
+step_means v k s named free =
+    elim (leb_tells (length (enabled_steps v)) k) [
+      inl past ↦ inr (free past.1)
+    | inr within ↦ inl (enabled_means v k s (named within.1)) ]
+
+-- the parts look as before: lists, places, updates and held operations are the same but for room
+pub record Seems (p r : Parts) : Type 0 where
+  pub lists : r.lists ≡ p.lists
+  pub seats : r.seats ≡ p.seats
+  pub fences : map updates_in r.fences ≡ map updates_in p.fences
+  pub held : map queued r.held ≡ map queued p.held
+
+moved : (w : World) (h : List Event) (p r : Parts) (v : VkState) → Seems p r → IsConsistent w h p.lists p.seats (map updates_in p.fences) (map queued p.held) v →
+    IsConsistent w h r.lists r.seats (map updates_in r.fences) (map queued r.held) v
+moved w h p r v seems is =
+    subst (λ x. IsConsistent w h r.lists r.seats (map updates_in r.fences) x v) (sym seems.held)
+    (subst (λ x. IsConsistent w h r.lists r.seats x (map queued p.held) v) (sym seems.fences)
+    (subst (λ x. IsConsistent w h r.lists x (map updates_in p.fences) (map queued p.held) v) (sym seems.seats)
+    (subst (λ x. IsConsistent w h x p.seats (map updates_in p.fences) (map queued p.held) v) (sym seems.lists) is)))
+
+module _ {D : Type 0} (state : D → VkState) (plan_of : D → Option DevicePlan) (w : World) (h : List Event) (p : Parts) (d : D) (keeps : Keeps state plan_of w h p d) where
+  -- the step ended no operation's batch
+  pub keeps_goes : (r : Parts) (e : D) (v : VkState) → Seems p r → IsConsistent w h p.lists p.seats (map updates_in p.fences) (map queued p.held) v → state e ≡ v → plan_of e ≡ plan_of d →
+      Keeps state plan_of w h r e
+  keeps_goes r e v seems is after plan = record {
+    consistent = subst (λ x. IsConsistent w h r.lists r.seats (map updates_in r.fences) (map queued r.held) x) (sym after) (moved w h p r v seems is);
+    plan = plan ∙ keeps.plan;
+  }
+
+  pub keeps_stays : (r : Parts) (e : D) → Seems p r → state e ≡ state d → plan_of e ≡ plan_of d → Keeps state plan_of w h r e
+  keeps_stays r e seems after plan = keeps_goes r e (state d) seems keeps.consistent after plan
+
+  pub keeps_free : (r : Parts) (e : D) → Seems p r → state e ≡ after_step (state d) Free → plan_of e ≡ plan_of d → Keeps state plan_of w h r e
+  keeps_free r e seems after plan = keeps_goes r e (state d) seems keeps.consistent after plan
+
+  -- a pass, or a command
+  pub keeps_pass : (r : Parts) (e : D) (q n : ℕ) → Seems p r → (IsEnabled (state d) (Passed q n) ⊎ (Passed q n ≡ Free)) → state e ≡ after_step (state d) (Passed q n) → plan_of e ≡ plan_of d →
+      Keeps state plan_of w h r e
+  keeps_pass r e q n seems means after plan =
+      elim means [
+        inl enabled ↦ keeps_goes r e (after_step (state d) (Passed q n)) seems
+          (consistent_pass w h p.lists p.seats (map updates_in p.fences) (map queued p.held) (state d) q n keeps.consistent enabled) after plan
+      | inr free ↦ absurd (cc) ]
+
+  pub keeps_ran : (r : Parts) (e : D) (q n k : ℕ) → Seems p r → (IsEnabled (state d) (Ran q n k) ⊎ (Ran q n k ≡ Free)) → state e ≡ after_step (state d) (Ran q n k) → plan_of e ≡ plan_of d →
+      Keeps state plan_of w h r e
+  keeps_ran r e q n k seems means after plan =
+      elim means [
+        inl enabled ↦ keeps_goes r e (after_step (state d) (Ran q n k)) seems
+          (consistent_run w h p.lists p.seats (map updates_in p.fences) (map queued p.held) (state d) q n k keeps.consistent enabled) after plan
+      | inr free ↦ absurd (cc) ]
+
+  one : length w.queues ≡ 1
+  one = keeps.consistent.world.one_queue
+
+  -- a bump is of the one queue
+  pub bump_queue : (q n : ℕ) → (IsEnabled (state d) (Bumped q n) ⊎ (Bumped q n ≡ Free)) → (q ≡ 0) × IsEnabled (state d) (Bumped q n)
+  bump_queue q n means =
+      elim means [
+        inl enabled ↦ (omega (arith, slice_get_within (state d).lanes q enabled.lane enabled.there, keeps.consistent.device.objects.lanes, one), enabled)
+      | inr free ↦ absurd (cc) ]
+
+  pub held_some : 0 < length p.held
+  held_some = omega (arith, length-map p.held queued, keeps.consistent.held_are.count, one)
+
+  -- the end of the start-up batch
+  pub keeps_start : (r : Parts) (e : D) (q n : ℕ) → Seems p r → (IsEnabled (state d) (Bumped q n) ⊎ (Bumped q n ≡ Free)) → n ≡ 0 → state e ≡ after_step (state d) (Bumped q n) → plan_of e ≡ plan_of d →
+      Keeps state plan_of w h r e
+  keeps_start r e q n seems means zeroth after plan =
+      let bump : (q ≡ 0) × IsEnabled (state d) (Bumped q n) = bump_queue q n means in
+      let enabled : IsEnabled (state d) (Bumped 0 0) =
+        subst (λ k. IsEnabled (state d) (Bumped 0 k)) zeroth (subst (λ i. IsEnabled (state d) (Bumped i n)) bump.0 bump.1) in
+      keeps_goes r e (after_step (state d) (Bumped 0 0)) seems
+        (consistent_start w h p.lists p.seats (map updates_in p.fences) (map queued p.held) (state d) keeps.consistent (omega (arith, one)) enabled)
+        (after ∙ ap (λ i. after_step (state d) (Bumped i n)) bump.0 ∙ ap (λ k. after_step (state d) (Bumped 0 k)) zeroth) plan
+
+  -- the end of an operation's batch
+  pub keeps_end : (r : Parts) (e : D) (q n : ℕ) (y : Held) → (IsEnabled (state d) (Bumped q n) ⊎ (Bumped q n ≡ Free)) → 0 < n → slice_get p.held 0 ≡ Some y →
+      r.lists ≡ p.lists → r.seats ≡ p.seats → map updates_in r.fences ≡ updated_by (signal_at n (queued y)) (map updates_in p.fences) →
+      map queued r.held ≡ changed_at (without (signal_at n (queued y))) 0 (map queued p.held) →
+      state e ≡ after_step (state d) (Bumped q n) → plan_of e ≡ plan_of d → Keeps state plan_of w (h ++ event.Queue (record { 0 = q }) ∷ []) r e
+  keeps_end r e q n y means some at lists seats fences held after plan =
+      let bump : (q ≡ 0) × IsEnabled (state d) (Bumped q n) = bump_queue q n means in
+      let enabled : IsEnabled (state d) (Bumped 0 n) = subst (λ i. IsEnabled (state d) (Bumped i n)) bump.0 bump.1 in
+      let k : List Event = h ++ event.Queue (record { 0 = q }) ∷ [] in
+      let is : IsConsistent w k p.lists p.seats (updated_by (signal_at n (queued y)) (map updates_in p.fences)) (changed_at (without (signal_at n (queued y))) 0 (map queued p.held)) (after_step (state d) (Bumped 0 n)) =
+        consistent_end w h p.lists p.seats (map updates_in p.fences) (map queued p.held) (state d) (record { 0 = q }) n (queued y) keeps.consistent bump.0 (omega (arith, one)) some enabled
+          (slice_get-map queued p.held 0 ∙ ap (option_map queued) at) in
+      record {
+        consistent =
+          subst (λ x. IsConsistent w k r.lists r.seats (map updates_in r.fences) (map queued r.held) x) (sym (after ∙ ap (λ i. after_step (state d) (Bumped i n)) bump.0))
+          (subst (λ x. IsConsistent w k r.lists r.seats (map updates_in r.fences) x (after_step (state d) (Bumped 0 n))) (sym held)
+          (subst (λ x. IsConsistent w k r.lists r.seats x (changed_at (without (signal_at n (queued y))) 0 (map queued p.held)) (after_step (state d) (Bumped 0 n))) (sym fences)
+          (subst (λ x. IsConsistent w k r.lists x (updated_by (signal_at n (queued y)) (map updates_in p.fences)) (changed_at (without (signal_at n (queued y))) 0 (map queued p.held)) (after_step (state d) (Bumped 0 n))) (sym seats)
+          (subst (λ x. IsConsistent w k x p.seats (updated_by (signal_at n (queued y)) (map updates_in p.fences)) (changed_at (without (signal_at n (queued y))) 0 (map queued p.held)) (after_step (state d) (Bumped 0 n))) (sym lists) is))));
+        plan = plan ∙ keeps.plan;
+      }
