@@ -1,5 +1,5 @@
 -- What a step of the device needs, and what it leaves.
-use Rattle.std.proofs.Common.{ℕ, zero, suc, ◌≡◌, ◌<◌, ◌≤◌, ◌+◌, ◌-◌, ◌∙◌, sym, ap, subst, refl, arith, List, [], ◌∷◌, ◌++◌, length, map, drop, Some, None, Option, Bool, true, false, get_or, set, cond, append-nil, ◌⊎◌, inl, inr}
+use Rattle.std.proofs.Common.{ℕ, zero, suc, ◌≡◌, ◌<◌, ◌≤◌, ◌+◌, ◌-◌, ◌∙◌, sym, ap, subst, refl, arith, List, [], ◌∷◌, ◌++◌, length, map, drop, Some, None, Option, Bool, true, false, get_or, cond, append-nil, ◌⊎◌, inl, inr, slice_set}
 use Rattle.std.proofs.lemmas.List.{length-map}
 use Rattle.std.proofs.lemmas.Option.{slice_get_within, slice_get-map, slice_get_read}
 use Rattle.std.proofs.lemmas.Bool.{eqb-true}
@@ -8,6 +8,10 @@ use Rattle.std.specs.List.{slice_get}
 use Rattle.std.specs.Option.{option_map}
 use Rattle.std.specs.Prelude.{◌==◌, if◌then◌else◌}
 use Rattle.dx_base.specs.Lists.{changed_at}
+use Rattle.dx_base.specs.Roomy.{Roomy}
+use Rattle.dx_base.proofs.Lists.{map_write}
+use Rattle.sys_core.specs.declared.parts.Signalled.{Signalled}
+use Rattle.sys_core.proofs.WorkerStep.{held_at}
 use Rattle.dx_base.specs.declared.ids.QueueId.{QueueId}
 use Rattle.d3d_machine.specs.declared.world.World.{World}
 use Rattle.d3d_machine.specs.declared.events.Event.{Event}
@@ -36,6 +40,11 @@ step_means v k s named free =
       inl past ↦ inr (free past.1)
     | inr within ↦ inl (enabled_means v k s (named within.1)) ]
 
+-- the same, of what a step is
+pub means_of : (v : VkState) (k : ℕ) (s t : Stepped) → s ≡ t → (k < length (enabled_steps v) → slice_get (enabled_steps v) k ≡ Some s) →
+    (length (enabled_steps v) ≤ k → s ≡ Free) → IsEnabled v t ⊎ (t ≡ Free)
+means_of v k s t is named free = subst (λ x. IsEnabled v x ⊎ (x ≡ Free)) is (step_means v k s named free)
+
 -- the parts look as before: lists, places, updates and held operations are the same but for room
 pub record Seems (p r : Parts) : Type 0 where
   pub lists : r.lists ≡ p.lists
@@ -50,6 +59,10 @@ moved w h p r v seems is =
     (subst (λ x. IsConsistent w h r.lists r.seats x (map queued p.held) v) (sym seems.fences)
     (subst (λ x. IsConsistent w h r.lists x (map updates_in p.fences) (map queued p.held) v) (sym seems.seats)
     (subst (λ x. IsConsistent w h x p.seats (map updates_in p.fences) (map queued p.held) v) (sym seems.lists) is)))
+
+by_cases : (n : ℕ) → (n ≡ 0 → ⊥) → 0 < n
+by_cases zero h = absurd (h refl)
+by_cases (suc n) h = omega arith
 
 module _ {D : Type 0} (state : D → VkState) (plan_of : D → Option DevicePlan) (w : World) (h : List Event) (p : Parts) (d : D) (keeps : Keeps state plan_of w h p d) where
   -- the step ended no operation's batch
@@ -128,3 +141,25 @@ module _ {D : Type 0} (state : D → VkState) (plan_of : D → Option DevicePlan
           (subst (λ x. IsConsistent w k x p.seats (updated_by (signal_at n (queued y)) (map updates_in p.fences)) (changed_at (without (signal_at n (queued y))) 0 (map queued p.held)) (after_step (state d) (Bumped 0 n))) (sym lists) is))));
         plan = plan ∙ keeps.plan;
       }
+
+  -- the queue's place, by either reading
+  pub same_held : (q n : ℕ) (y z : Held) → (IsEnabled (state d) (Bumped q n) ⊎ (Bumped q n ≡ Free)) → y ≡ get_or p.held q y → slice_get p.held 0 ≡ Some z → y ≡ z
+  same_held q n y z means at first =
+      let bump : (q ≡ 0) × IsEnabled (state d) (Bumped q n) = bump_queue q n means in
+      let found : slice_get p.held 0 ≡ Some y = held_at state plan_of w h p d keeps 0 y (omega (arith, one)) (subst (λ i. y ≡ get_or p.held i y) bump.0 at) in
+      let both : Some y ≡ Some z = sym found ∙ first in
+      grind arith
+
+  -- the end of an operation's batch, as the step's parts give it
+  pub keeps_end_by : (fences : List (Roomy ℕ)) (e : D) (q n : ℕ) (y z : Held) (o : Option Signalled) → (IsEnabled (state d) (Bumped q n) ⊎ (Bumped q n ≡ Free)) → (n ≡ 0 → ⊥) → y ≡ get_or p.held q y →
+      o ≡ signal_at n (queued y) → queued z ≡ without o (queued y) → map updates_in fences ≡ updated_by o (map updates_in p.fences) →
+      state e ≡ after_step (state d) (Bumped q n) → plan_of e ≡ plan_of d →
+      Keeps state plan_of w (h ++ event.Queue (record { 0 = q }) ∷ []) (record { lists = p.lists; seats = p.seats; fences = fences; held = slice_set p.held q z }) e
+  keeps_end_by fences e q n y z o means later at signal rest updates after plan =
+      let bump : (q ≡ 0) × IsEnabled (state d) (Bumped q n) = bump_queue q n means in
+      let first : y ≡ get_or p.held 0 y = subst (λ i. y ≡ get_or p.held i y) bump.0 at in
+      let found : slice_get p.held 0 ≡ Some y = held_at state plan_of w h p d keeps 0 y (omega (arith, one)) first in
+      keeps_end (record { lists = p.lists; seats = p.seats; fences = fences; held = slice_set p.held q z }) e q n y means (by_cases n later) found refl refl
+        (updates ∙ ap (λ x. updated_by x (map updates_in p.fences)) signal)
+        (ap (λ i. map queued (slice_set p.held i z)) bump.0 ∙ map_write queued (without (signal_at n (queued y))) p.held 0 y z held_some first (rest ∙ ap (λ x. without x (queued y)) signal))
+        after plan

@@ -2,7 +2,13 @@
 use Rattle.std.proofs.Common.{ℕ, zero, suc, ◌≡◌, refl, ap, arith, List, [], ◌∷◌, map, Some, None}
 use Rattle.std.specs.List.{slice_get}
 use Rattle.dx_base.specs.Roomy.{Roomy}
-use Rattle.sys_core.specs.Parts.{updates_in, updates_at}
+use Rattle.std.proofs.Common.{◌<◌, ◌≤◌, ◌++◌, sym, subst, length, set, get_or, Option, Bool, true, false}
+use Rattle.std.proofs.lemmas.List.{length-map}
+use Rattle.std.proofs.lemmas.Option.{slice_get_within, slice_get_read}
+use Rattle.std.specs.Prelude.{◌==◌, if◌then◌else◌}
+use Rattle.dx_base.proofs.Lists.{changed_past}
+use Rattle.sys_core.specs.declared.parts.Signalled.{Signalled}
+use Rattle.sys_core.specs.Parts.{updates_in, updates_at, updated_by, with_number, HasRoomAt, HasRoomFor}
 
 pub updates_of_none : (fences : List (Roomy ℕ)) (f : ℕ) → slice_get fences f ≡ None → updates_at (map updates_in fences) f ≡ []
 updates_of_none [] f is = refl
@@ -13,3 +19,33 @@ pub updates_of_some : (fences : List (Roomy ℕ)) (f : ℕ) (r : Roomy ℕ) → 
 updates_of_some [] f r is = absurd (cc)
 updates_of_some (x ∷ xs) zero r is = ap updates_in (let e : x ≡ r = grind arith in e)
 updates_of_some (x ∷ xs) (suc f) r is = updates_of_some xs f r is
+
+set_room : (fences : List (Roomy ℕ)) (f : ℕ) (y r : Roomy ℕ) → 1 ≤ y.spare → slice_get (set fences f y) f ≡ Some r → 1 ≤ r.spare
+set_room [] f y r some is = absurd (cc)
+set_room (x ∷ xs) zero y r some is = let e : y ≡ r = grind arith in subst (λ (z : Roomy ℕ). 1 ≤ z.spare) e some
+set_room (x ∷ xs) (suc f) y r some is = set_room xs f y r some is
+
+-- room that was made in a fence
+pub room_made : (fences : List (Roomy ℕ)) (f : ℕ) (y : Roomy ℕ) → 1 ≤ y.spare → HasRoomAt (set fences f y) f
+room_made fences f y some = record { room = λ r is. set_room fences f y r some is }
+
+-- a fence that is not there
+pub room_past : (fences : List (Roomy ℕ)) (f : ℕ) → length fences ≤ f → HasRoomAt fences f
+room_past fences f past = record { room = λ r is. absurd (omega (arith, slice_get_within fences f r is)) }
+
+-- the item that was lent
+pub room_lent : (fences : List (Roomy ℕ)) (f : ℕ) (x : Roomy ℕ) → f < length fences → x ≡ get_or fences f x → HasRoomAt fences f → 1 ≤ x.spare
+room_lent fences f x within lent room = room.room x (slice_get_read fences (length fences) f x refl within lent)
+
+-- an update of a fence that is not there changes nothing
+pub updated_past : (fences : List (Roomy ℕ)) (s : Signalled) → length fences ≤ s.fence.0 → map updates_in fences ≡ updated_by (Some s) (map updates_in fences)
+updated_past fences s past = sym (changed_past (λ us. us ++ s.value ∷ []) (map updates_in fences) s.fence.0 (omega (arith, length-map fences updates_in)))
+
+-- room for a signal is room for it where its number is asked for
+pub room_numbered : (n : ℕ) (o : Option Signalled) (fences : List (Roomy ℕ)) → HasRoomFor o fences → HasRoomFor (with_number n o) fences
+room_numbered n None fences room = room
+room_numbered n (Some s) fences room = by_test (s.number == n)
+  where
+    by_test : (b : Bool) → HasRoomFor (if b then Some s else None) fences
+    by_test true = room
+    by_test false = tt

@@ -156,6 +156,11 @@ updated_by (Some s) fences = changed_at (λ us. us ++ s.value ∷ []) s.fence.0 
 abbrev pub first_signal : Queued → Option Signalled
 first_signal x = slice_get x.signals 0
 
+-- a fence can take one more update without asking for memory
+pub record HasRoomAt (fences : List (Roomy ℕ)) (f : ℕ) : Type 0 where
+  pub room : (r : Roomy ℕ) → slice_get fences f ≡ Some r → 1 ≤ r.spare
+
 -- the fence of a signal can take one more update without asking for memory
-pub record HasRoomFor (signal : Option Signalled) (fences : List (Roomy ℕ)) : Type 0 where
-  pub room : (s : Signalled) (r : Roomy ℕ) → signal ≡ Some s → slice_get fences s.fence.0 ≡ Some r → 1 ≤ r.spare
+abbrev pub HasRoomFor : Option Signalled → List (Roomy ℕ) → Type 0
+HasRoomFor None fences = Unit {0}
+HasRoomFor (Some s) fences = HasRoomAt fences s.fence.0

@@ -2,7 +2,7 @@
 
 ghost use Rattle.std.specs.Prelude.{◌≡◌, ◌<◌, ◌≤◌, ◌+◌, ◌^◌, ◌++◌, ◌∷◌, [], map, length, true, slice_get, slice_index_or, Some, None, IfOk, OnOk, OnErr, IsSome, IfSome};
 ghost use Rattle.dx_base.specs.Lists.{changed_at};
-ghost use Rattle.sys_core.specs.Parts.{queued, updates_in, signal_at, without, updated_by, first_signal, HasRoomFor};
+ghost use Rattle.sys_core.specs.Parts.{queued, updates_in, signal_at, without, updated_by, first_signal, HasRoomAt, HasRoomFor};
 ghost use Rattle.sys_core.specs.Steps.{step_events, IsDeviceStep};
 ghost use Rattle.sys_core.specs.Serving.{HasCause};
 ghost use Rattle.sys_core.specs.Keeps.{Keeps};
@@ -35,23 +35,33 @@ fn take_signal(held: &mut Held, number: u64) -> Option<Signalled>
     held.signals.pop()
 }
 
+/// Makes room for one update of the fence at that place, where there is one.
+#[tactic(auto, using(crate::proofs::Updates::room_made, crate::proofs::Updates::room_past, dx_base::proofs::Lists::map_write_same))]
+fn reserve_at(fences: &mut Seq<Room<u64>>, at: usize) -> Result<(), Memory>
+    ensures room { OnOk result (HasRoomAt fences.new at) }
+    ensures same { map updates_in fences.new ≡ map updates_in fences.old }
+{
+    if at < fences.len() {
+        return fences.at_mut(at).reserve();
+    }
+    Ok(())
+}
+
 /// Makes room for one update of the fence that a queue's first submitted signal is of.
 fn reserve_update(held: &Held, fences: &mut Seq<Room<u64>>) -> Result<(), Memory>
     ensures room { OnOk result (HasRoomFor (first_signal (queued held.now)) fences.new) }
     ensures same { map updates_in fences.new ≡ map updates_in fences.old }
 {
-    if let Some(signal) = held.signals.front() {
-        let at = signal.fence.0 as usize;
-        if at < fences.len() {
-            fences.at_mut(at).reserve()?;
-        }
+    match held.signals.front() {
+        Some(signal) => reserve_at(fences, signal.fence.0 as usize),
+        None => Ok(()),
     }
-    Ok(())
 }
 
-/// A signal that has completed gives its fence its value.
+/// A fence takes a value, where it is there. There is room for it.
+#[tactic(auto, using(crate::proofs::Updates::room_lent, crate::proofs::Updates::updated_past, dx_base::proofs::Lists::map_write))]
 fn update(fences: &mut Seq<Room<u64>>, signal: Signalled)
-    requires { HasRoomFor (Some signal) fences.old }
+    requires { HasRoomAt fences.old signal.fence.0 }
     ensures { map updates_in fences.new ≡ updated_by (Some signal) (map updates_in fences.old) }
 {
     let at = signal.fence.0 as usize;
@@ -60,19 +70,13 @@ fn update(fences: &mut Seq<Room<u64>>, signal: Signalled)
     }
 }
 
-/// The end of an operation's batch: where the operation was the first submitted signal, its fence takes
-/// the value. There is room for it.
-#[tactic(auto, using(dx_base::proofs::Lists::map_write))]
-fn complete(parts: &mut Parts, queue: u32, number: u64)
-    requires queue { queue < length parts.old.held }
-    requires room { (held : Held) → slice_get parts.old.held queue ≡ Some held → HasRoomFor (first_signal (queued held)) parts.old.fences }
-    ensures lists { parts.new.lists ≡ parts.old.lists }
-    ensures seats { parts.new.seats ≡ parts.old.seats }
-    ensures fences { (held : Held) → slice_get parts.old.held queue ≡ Some held → map updates_in parts.new.fences ≡ updated_by (signal_at number (queued held)) (map updates_in parts.old.fences) }
-    ensures held { (held : Held) → slice_get parts.old.held queue ≡ Some held → map queued parts.new.held ≡ changed_at (without (signal_at number (queued held))) queue (map queued parts.old.held) }
+/// The signal that has completed, where one has, gives its fence its value. There is room for it.
+fn update_by(fences: &mut Seq<Room<u64>>, signal: Option<Signalled>)
+    requires { HasRoomFor signal fences.old }
+    ensures { map updates_in fences.new ≡ updated_by signal (map updates_in fences.old) }
 {
-    match take_signal(parts.held.at_mut(queue as usize), number) {
-        Some(signal) => update(&mut parts.fences, signal),
+    match signal {
+        Some(signal) => update(fences, signal),
         None => (),
     }
 }
@@ -100,7 +104,8 @@ pub(crate) fn device_step<D: VkDevice>(world: &World, history: &mut Room<Event>,
             if number == 0 {
                 return Ok(());
             }
-            complete(parts, queue, number);
+            let signal = take_signal(parts.held.at_mut(queue as usize), number);
+            update_by(&mut parts.fences, signal);
             history.push_reserved(Event::Queue(QueueId(queue)));
             Ok(())
         }
