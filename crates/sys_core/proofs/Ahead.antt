@@ -39,7 +39,7 @@ use Rattle.sys_core.proofs.Undone.{run_append, ahead_append, held_is_effect}
 -- the claim, with the commands of the operations that are not submitted in place of what they do
 pub ahead_in_commands : (w : World) (h : List Event) (v : VkState) → IsAhead w h v →
     run_commands (batches_undone (lane_of v 0).batches ++ held_commands (drop (submitted_of v 0) (operations w h 0))) v.words
-      ≡ memory_ahead (drop (counter h 0) (operations w h 0)) (state_after w h).memory
+    ≡ memory_ahead (drop (counter h 0) (operations w h 0)) (state_after w h).memory
 ahead_in_commands w h v is =
     let us : List VkCommand = batches_undone (lane_of v 0).batches in
     let os : List Operation = drop (submitted_of v 0) (operations w h 0) in
@@ -98,7 +98,7 @@ completed_memory w s (o ∷ os) is =
 -- the claim, with the memory after the history and the completion of each called operation that is not complete
 pub ahead_in_completions : (w : World) (h : List Event) (v : VkState) → IsRunButWords w h → 0 < length w.queues → IsAhead w h v →
     run_commands (batches_undone (lane_of v 0).batches ++ held_commands (drop (submitted_of v 0) (operations w h 0))) v.words
-      ≡ (state_after w (h ++ replicate (length (drop (counter h 0) (operations w h 0))) completion)).memory
+    ≡ (state_after w (h ++ replicate (length (drop (counter h 0) (operations w h 0))) completion)).memory
 ahead_in_completions w h v run some is =
     let os : List Operation = drop (counter h 0) (operations w h 0) in
     let first : (x : ListType) × (slice_get w.queues 0 ≡ Some x) = item_at w.queues 0 some in
@@ -109,7 +109,7 @@ ahead_in_completions w h v run some is =
 -- an event that completes nothing, where words and memory change alike
 pub ahead_event : (w : World) (h : List Event) (e : Event) (v : VkState) (words : List (List ℕ)) → IsWithin w h v → completions_by 0 e ≡ 0 →
     memory_ahead (drop (submitted_of v 0) (operations w h 0)) (run_commands (batches_undone (lane_of v 0).batches) words)
-      ≡ memory_ahead (drop (counter h 0) (operations w h 0)) (memory_after w (state_after w h) e) → IsAhead w (h ++ e ∷ []) (record v { words = words })
+    ≡ memory_ahead (drop (counter h 0) (operations w h 0)) (memory_after w (state_after w h) e) → IsAhead w (h ++ e ∷ []) (record v { words = words })
 ahead_event w h e v words within none same =
     let os : List Operation = operations w h 0 in
     let by : List Operation = called_by w (state_after w h).desk 0 e in
@@ -122,10 +122,10 @@ ahead_event w h e v words within none same =
     let count : c ≡ counter (h ++ e ∷ []) 0 = omega (arith, counter_append 0 h e, none) in
     record {
       ahead = ap (λ xs. memory_ahead (drop s xs) x) all ∙ ap (λ xs. memory_ahead xs x) (drop-append-le s os by within.submitted)
-        ∙ ahead_append (drop s os) by x ∙ ap (memory_ahead by) same ∙ sym (ahead_append (drop c os) by m)
-        ∙ ap (λ xs. memory_ahead xs m) (sym (drop-append-le c os by (omega (arith, within.submitted, within.complete))))
-        ∙ ap (λ xs. memory_ahead (drop c xs) m) (sym all) ∙ ap (λ k. memory_ahead (drop k now) m) count
-        ∙ ap (λ (st : State). memory_ahead (drop (counter (h ++ e ∷ []) 0) now) st.memory) (sym (state_after_append w h e));
+          ∙ ahead_append (drop s os) by x ∙ ap (memory_ahead by) same ∙ sym (ahead_append (drop c os) by m)
+          ∙ ap (λ xs. memory_ahead xs m) (sym (drop-append-le c os by (omega (arith, within.submitted, within.complete))))
+          ∙ ap (λ xs. memory_ahead (drop c xs) m) (sym all) ∙ ap (λ k. memory_ahead (drop k now) m) count
+          ∙ ap (λ (st : State). memory_ahead (drop (counter (h ++ e ∷ []) 0) now) st.memory) (sym (state_after_append w h e));
     }
 
 -- a thread that wakes
@@ -169,7 +169,7 @@ quiet_is_idle w h v run is some quiet =
     let count : submitted_of v 0 ≡ length (of_queue 0 rest) = submitted_is w v rest 0 is.stands.begins at.numbered in
     let long : length (lane_of v 0).batches ≡ length (of_queue 0 v.journal) - lane.finished = sym (length-map (lane_of v 0).batches batch_of) ∙ ap length lane.are_last ∙ length-drop lane.finished (of_queue 0 v.journal) in
     let all : lane.finished - 1 ≡ length (of_queue 0 rest) =
-      omega (arith, is.finished 0 some, long, lane.ended, ap length begins, within.submitted, within.complete, through, count) in
+    omega (arith, is.finished 0 some, long, lane.ended, ap length begins, within.submitted, within.complete, through, count) in
     record {
       undone = only_startup lane.finished (startup w) (of_queue 0 rest) (lane_of v 0).batches (lane.are_last ∙ ap (drop lane.finished) begins) all refl;
       held = drop_past (submitted_of v 0) (operations w h 0) (omega (arith, through, within.complete));

@@ -74,17 +74,18 @@ ahead_call w h lists v t c r run device some are quiet is =
     let held : List Operation = drop (submitted_of v 0) (operations w h 0) in
     let called : List Operation = drop (counter h 0) (operations w h 0) in
     let alike : words ≡ memory_or no (written c v.words) v.words =
-      ap (λ o. memory_or o (written c v.words) v.words) (refusal_is w (state_after w h).desk lists c are) in
+    ap (λ o. memory_or o (written c v.words) v.words) (refusal_is w (state_after w h).desk lists c are) in
     ahead_event w h (event.Call t c r) v words (device_within w h v device some) refl
-      (elim (cases_Bool (is_good_access no c)) as (λ _. memory_ahead held (run_commands us words) ≡ memory_ahead called (memory_or no (written c m) m)) [
-        inl access ↦
+    (elim (cases_Bool (is_good_access no c)) as (λ _. memory_ahead held (run_commands us words) ≡ memory_ahead called (memory_or no (written c m) m)) [
+      | inl access ↦
           let idle : IsIdle w h v = quiet_is_idle w h v run device some (quiet access) in
           ap (λ cs. memory_ahead held (run_commands cs words)) idle.undone ∙ ap (λ os. memory_ahead os words) idle.held
           ∙ alike ∙ ap (λ ws. memory_or no (written c ws) ws) (idle_words w h v is idle)
           ∙ ap (λ os. memory_ahead os (memory_or no (written c m) m)) (sym idle.called)
       | inr none ↦
           ap (λ ws. memory_ahead held (run_commands us ws)) (alike ∙ stays no c none v.words)
-          ∙ is.ahead ∙ ap (memory_ahead called) (sym (stays no c none m)) ])
+          ∙ is.ahead ∙ ap (memory_ahead called) (sym (stays no c none m))
+    ])
 
 number_after_last : (n : ℕ) (bs : List Batch) (b : Batch) → number_after n (bs ++ b ∷ []) ≡ b.number + 1
 number_after_last n [] b = refl
@@ -93,7 +94,7 @@ number_after_last n (x ∷ bs) b = number_after_last (x.number + 1) bs b
 one_more_submitted : (v : VkState) (b : Batch) → b.queue ≡ 0 → b.number ≡ submitted_of v 0 + 1 → submitted_of (after_submit v b) 0 ≡ submitted_of v 0 + 1
 one_more_submitted v b queue number =
     let all : of_queue 0 (v.journal ++ b ∷ []) ≡ of_queue 0 v.journal ++ b ∷ [] =
-      of_queue_append 0 v.journal b ∙ ap (λ q. of_queue 0 v.journal ++ (if (q == 0) then b ∷ [] else [])) queue in
+    of_queue_append 0 v.journal b ∙ ap (λ q. of_queue 0 v.journal ++ (if (q == 0) then b ∷ [] else [])) queue in
     ap (λ bs. number_after 0 bs - 1) all ∙ omega (arith, number_after_last 0 (of_queue 0 v.journal) b, number)
 
 -- the submission of the next operation
@@ -106,14 +107,14 @@ ahead_submit w h v b o some next queue number cs is =
     let us : List VkCommand = batches_undone rs in
     let x : List (List ℕ) = run_commands us v.words in
     let lane : lane_of (after_submit v b) 0 ≡ lane_after_submit b (lane_of v 0) =
-      ap (λ q. get_or (changed_at (lane_after_submit b) q v.lanes) 0 no_lane) queue ∙ get_or_changed (lane_after_submit b) v.lanes 0 no_lane some in
+    ap (λ q. get_or (changed_at (lane_after_submit b) q v.lanes) 0 no_lane) queue ∙ get_or_changed (lane_after_submit b) v.lanes 0 no_lane some in
     let todo : batches_undone (lane_of (after_submit v b) 0).batches ≡ us ++ lowered_commands o =
-      ap (λ (l : Lane). batches_undone l.batches) lane ∙ undone_append rs (started b) ∙ ap (λ es. us ++ es) (all_unmarked b.commands ∙ cs) in
+    ap (λ (l : Lane). batches_undone l.batches) lane ∙ undone_append rs (started b) ∙ ap (λ es. us ++ es) (all_unmarked b.commands ∙ cs) in
     let words : run_commands (batches_undone (lane_of (after_submit v b) 0).batches) v.words ≡ memory_after_operation x (Some o) =
-      ap (λ es. run_commands es v.words) todo ∙ run_append us (lowered_commands o) v.words ∙ lowered_is_effect o x in
+    ap (λ es. run_commands es v.words) todo ∙ run_append us (lowered_commands o) v.words ∙ lowered_is_effect o x in
     record {
       ahead = ap (λ k. memory_ahead (drop k os) (run_commands (batches_undone (lane_of (after_submit v b) 0).batches) v.words)) (one_more_submitted v b queue number)
-        ∙ ap (memory_ahead (drop (s + 1) os)) words ∙ ap (λ ys. memory_ahead ys x) (sym (drop_here s os o next)) ∙ is.ahead;
+          ∙ ap (memory_ahead (drop (s + 1) os)) words ∙ ap (λ ys. memory_ahead ys x) (sym (drop_here s os o next)) ∙ is.ahead;
     }
 
 -- the completion of the oldest called operation
@@ -128,14 +129,14 @@ ahead_complete w h v q first run some is =
     let all : now ≡ os = operations_append w (first_state w) 0 h e ∙ append-nil os in
     let count : counter (h ++ e ∷ []) 0 ≡ c + 1 = counter_append 0 h e ∙ ap (λ p. c + (if (p == 0) then 1 else 0)) first in
     let memory : (state_after w (h ++ e ∷ [])).memory ≡ memory_after_operation s.memory (slice_get (drop c os) 0) =
-      ap (λ (st : State). st.memory) (state_after_append w h e) ∙ ap (λ p. memory_after w s (event.Queue (record { 0 = p }))) first
-      ∙ ap (λ ys. memory_after_operation s.memory (slice_get ys 0)) (called_now w h run some) in
+    ap (λ (st : State). st.memory) (state_after_append w h e) ∙ ap (λ p. memory_after w s (event.Queue (record { 0 = p }))) first
+    ∙ ap (λ ys. memory_after_operation s.memory (slice_get ys 0)) (called_now w h run some) in
     record {
       ahead = ap (λ ys. memory_ahead (drop (submitted_of v 0) ys) x) all ∙ is.ahead ∙ ahead_first_one (drop c os) s.memory
-        ∙ ap (λ ys. memory_ahead ys (memory_after_operation s.memory (slice_get (drop c os) 0))) (drop-drop 1 c os)
-        ∙ ap (memory_ahead (drop (c + 1) os)) (sym memory)
-        ∙ ap (λ k. memory_ahead (drop k os) (state_after w (h ++ e ∷ [])).memory) (sym count)
-        ∙ ap (λ ys. memory_ahead (drop (counter (h ++ e ∷ []) 0) ys) (state_after w (h ++ e ∷ [])).memory) (sym all);
+          ∙ ap (λ ys. memory_ahead ys (memory_after_operation s.memory (slice_get (drop c os) 0))) (drop-drop 1 c os)
+          ∙ ap (memory_ahead (drop (c + 1) os)) (sym memory)
+          ∙ ap (λ k. memory_ahead (drop k os) (state_after w (h ++ e ∷ [])).memory) (sym count)
+          ∙ ap (λ ys. memory_ahead (drop (counter (h ++ e ∷ []) 0) ys) (state_after w (h ++ e ∷ [])).memory) (sym all);
     }
 
 -- a batch passes
@@ -153,8 +154,8 @@ ahead_end w h v n some bump is =
     record {
       ahead = ap (λ (l : Lane). memory_ahead (drop (submitted_of v 0) (operations w h 0)) (run_commands (batches_undone l.batches) v.words))
           (get_or_changed lane_after_bump v.lanes 0 no_lane some)
-        ∙ ap (λ cs. memory_ahead (drop (submitted_of v 0) (operations w h 0)) (run_commands cs v.words)) (sym (undone_behind (lane_of v 0).batches bump.first head bump.done))
-        ∙ is.ahead;
+          ∙ ap (λ cs. memory_ahead (drop (submitted_of v 0) (operations w h 0)) (run_commands cs v.words)) (sym (undone_behind (lane_of v 0).batches bump.first head bump.done))
+          ∙ is.ahead;
     }
 
 -- the first command that is not done runs
@@ -169,13 +170,13 @@ ahead_ran w h v first valid some is =
     let place : place_of n rs ≡ first.place = valid_place v valid 0 (lane_of v 0) (slice_get-get_or v.lanes 0 no_lane some) first.place first.running first.there in
     let index : k - 1 ≡ first.index = omega arith in
     let found : command_at n k rs ≡ Some first.command =
-      ap (λ i. slice_get (found_commands (slice_get rs i)) (k - 1)) place ∙ ap (λ o. slice_get (found_commands o) (k - 1)) first.there
-      ∙ ap (slice_get first.running.batch.commands) index ∙ first.is_command in
+    ap (λ i. slice_get (found_commands (slice_get rs i)) (k - 1)) place ∙ ap (λ o. slice_get (found_commands o) (k - 1)) first.there
+    ∙ ap (slice_get first.running.batch.commands) index ∙ first.is_command in
     record {
       ahead = ap (λ (l : Lane). memory_ahead held (run_commands (batches_undone l.batches) words)) (get_or_changed (lane_after_run n k) v.lanes 0 no_lane some)
-        ∙ ap (λ i. memory_ahead held (run_commands (batches_undone (changed_at (with_done k) i rs)) words)) place
-        ∙ ap (λ o. memory_ahead held (run_commands (batches_undone (changed_at (with_done k) first.place rs)) (after_found o v.words))) found
-        ∙ ap (λ cs. memory_ahead held (run_commands cs v.words)) (sym first.rest) ∙ is.ahead;
+          ∙ ap (λ i. memory_ahead held (run_commands (batches_undone (changed_at (with_done k) i rs)) words)) place
+          ∙ ap (λ o. memory_ahead held (run_commands (batches_undone (changed_at (with_done k) first.place rs)) (after_found o v.words))) found
+          ∙ ap (λ cs. memory_ahead held (run_commands cs v.words)) (sym first.rest) ∙ is.ahead;
     }
 
 one_lane : (lanes : List Lane) → length lanes ≡ 1 → lanes ≡ get_or lanes 0 no_lane ∷ []
@@ -205,16 +206,16 @@ step_kind : (w : World) (h : List Event) (v : VkState) (s : Stepped) → IsRunBu
     IsEnabled v s → slice_get (enabled_steps v) 0 ≡ Some s → IsAhead w (h ++ step_events s) (after_step v s)
 step_kind w h v (Passed q n) run valid some one is e at =
     at_first (λ p. IsAhead w (h ++ step_events (Passed p n)) (after_step v (Passed p n))) q (length v.lanes) (slice_get_within v.lanes q e.lane e.there) one
-      (no_event w h (after_step v (Passed 0 n)) (ahead_pass w h v n (omega arith) is))
+    (no_event w h (after_step v (Passed 0 n)) (ahead_pass w h v n (omega arith) is))
 step_kind w h v (Ran q n k) run valid some one is e at =
     let first : (f : IsFirstIn 0 (lane_of v 0).passed (lane_of v 0).batches) × (Ran 0 f.running.batch.number (1 + f.index) ≡ Ran q n k) =
-      first_ran v.timelines (lane_of v 0) q n k
-        (ap (λ ls. slice_get (passes v.timelines 0 ls ++ (commands 0 ls ++ bumps 0 ls)) 0) (sym (one_lane v.lanes one)) ∙ at) in
+    first_ran v.timelines (lane_of v 0) q n k
+    (ap (λ ls. slice_get (passes v.timelines 0 ls ++ (commands 0 ls ++ bumps 0 ls)) 0) (sym (one_lane v.lanes one)) ∙ at) in
     subst (λ s. IsAhead w (h ++ step_events s) (after_step v s)) first.1
-      (no_event w h (after_step v (Ran 0 first.0.running.batch.number (1 + first.0.index))) (ahead_ran w h v first.0 valid (omega arith) is))
+    (no_event w h (after_step v (Ran 0 first.0.running.batch.number (1 + first.0.index))) (ahead_ran w h v first.0 valid (omega arith) is))
 step_kind w h v (Bumped q n) run valid some one is e at =
     at_first (λ p. IsBump v p n → IsAhead w (h ++ step_events (Bumped p n)) (after_step v (Bumped p n))) q (length v.lanes) (slice_get_within v.lanes q e.lane e.there) one
-      (after_bump w h v n run some (omega arith) is) e
+    (after_bump w h v n run some (omega arith) is) e
 step_kind w h v Free run valid some one is e at = absurd e
 
 -- a step that can be taken is one of a queue

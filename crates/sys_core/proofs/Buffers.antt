@@ -49,8 +49,8 @@ lives_at w b r is = by_place (slice_get w.resources b) refl
     by_place : (o : Option (Option Resource)) → slice_get w.resources b ≡ o → slice_get w.resources b ≡ Some (Some r)
     by_place None at = absurd (let e : None ≡ Some r = sym (ap (λ (o : Option (Option Resource)). elim o [ None ↦ None | Some x ↦ x ]) at) ∙ is in cc)
     by_place (Some x) at =
-      let e : x ≡ Some r = sym (ap (λ (o : Option (Option Resource)). elim o [ None ↦ None | Some y ↦ y ]) at) ∙ is in
-      at ∙ ap (λ y. Some y) e
+        let e : x ≡ Some r = sym (ap (λ (o : Option (Option Resource)). elim o [ None ↦ None | Some y ↦ y ]) at) ∙ is in
+        at ∙ ap (λ y. Some y) e
 
 -- a list of a known length at a place
 long_at : (xs : List (List ℕ)) (b n : ℕ) → slice_get (map length xs) b ≡ Some n → (ys : List ℕ) × (slice_get xs b ≡ Some ys) × (length ys ≡ n)
@@ -59,14 +59,14 @@ long_at xs b n is = by_place (slice_get xs b) refl
     by_place : (o : Option (List ℕ)) → slice_get xs b ≡ o → (ys : List ℕ) × (slice_get xs b ≡ Some ys) × (length ys ≡ n)
     by_place None at = absurd (let e : None ≡ Some n = sym (ap (option_map length) at) ∙ sym (slice_get-map length xs b) ∙ is in cc)
     by_place (Some ys) at =
-      let e : Some (length ys) ≡ Some n = sym (ap (option_map length) at) ∙ sym (slice_get-map length xs b) ∙ is in
-      (ys, at, grind arith)
+        let e : Some (length ys) ≡ Some n = sym (ap (option_map length) at) ∙ sym (slice_get-map length xs b) ∙ is in
+        (ys, at, grind arith)
 
 buffer_at : (w : World) (v : VkState) (b : ℕ) (r : Resource) → IsWorld w → Matches (plan_of_world w) v → resource_of w b ≡ Some r →
     (ys : List ℕ) × (slice_get v.words b ≡ Some ys) × (length ys ≡ words_of_resource r)
 buffer_at w v b r world objects is =
     long_at v.words b (words_of_resource r)
-      (ap (λ ns. slice_get ns b) (device_sizes w v world objects) ∙ slice_get-map resource_words w.resources b ∙ ap (option_map resource_words) (lives_at w b r is))
+    (ap (λ ns. slice_get ns b) (device_sizes w v world objects) ∙ slice_get-map resource_words w.resources b ∙ ap (option_map resource_words) (lives_at w b r is))
 
 small_resource : (r : Resource) → is_small_resource (Some r) ≡ true → words_of_resource r < 2 ^ 32
 small_resource (Buffer h n) is = omega (arith, leb-true n 262144 is)
@@ -75,8 +75,8 @@ small_resource (Buffer h n) is = omega (arith, leb-true n 262144 is)
 pub has_buffers : (w : World) (v : VkState) → IsWorld w → Matches (plan_of_world w) v → HasBuffers w v
 has_buffers w v world objects = record {
   has = λ b r is. let found : (ys : List ℕ) × (slice_get v.words b ≡ Some ys) × (length ys ≡ words_of_resource r) = buffer_at w v b r world objects is in
-    slice_get_within v.words b found.0 found.1;
+      slice_get_within v.words b found.0 found.1;
   long = λ b r is. let found : (ys : List ℕ) × (slice_get v.words b ≡ Some ys) × (length ys ≡ words_of_resource r) = buffer_at w v b r world objects is in
-    ap length (get_or_from_slice_get v.words b found.0 [] found.1) ∙ found.2;
+      ap length (get_or_from_slice_get v.words b found.0 [] found.1) ∙ found.2;
   small = λ b r is. small_resource r (all_at is_small_resource w.resources b (Some r) world.sizes (lives_at w b r is));
 }

@@ -78,21 +78,23 @@ first_is w v n valid bump =
     let some : 0 < length (lane_of v 0).batches = slice_get_within (lane_of v 0).batches 0 bump.first front in
     let mapped : length (map batch_of (lane_of v 0).batches) ≡ length (lane_of v 0).batches = length-map (lane_of v 0).batches batch_of in
     let count : (lane.finished ≡ length j - length (map batch_of (lane_of v 0).batches)) × (lane.finished < length j) =
-      drop_long lane.finished j (map batch_of (lane_of v 0).batches) lane.are_last (omega (arith, some, mapped)) in
+    drop_long lane.finished j (map batch_of (lane_of v 0).batches) lane.are_last (omega (arith, some, mapped)) in
     let finished : finished_of v 0 ≡ lane.finished = omega (arith, count.0, mapped) in
     let here : slice_get j lane.finished ≡ Some bump.first.batch =
-      sym (slice_get_drop lane.finished j) ∙ ap (λ xs. slice_get xs 0) (sym lane.are_last) ∙ slice_get-map batch_of (lane_of v 0).batches 0 ∙ ap (option_map batch_of) front in
+    sym (slice_get_drop lane.finished j) ∙ ap (λ xs. slice_get xs 0) (sym lane.are_last) ∙ slice_get-map batch_of (lane_of v 0).batches 0 ∙ ap (option_map batch_of) front in
     let number : bump.first.batch.number ≡ 0 + lane.finished = number_at 0 j lane.finished bump.first.batch (valid.numbered 0) here in
-    let n_is : lane.finished ≡ n = omega (arith, number, bump.number) in
-    (bump.first.batch, record {
-      finished = finished ∙ n_is;
-      lane_some = some;
-      lane_within = slice_get_within v.lanes 0 bump.lane bump.there;
-      few = omega (arith, ap length lane.are_last, length-drop lane.finished j, mapped);
-      at = ap (slice_get j) (sym n_is) ∙ here;
-      number = bump.number;
-      sets = ap (λ (o : Option Running). elim o [ None ↦ [] | Some first ↦ first.batch.sets ]) front;
-    })
+    let n_is : lane.finished ≡ n = omega (arith, number, bump.number) in (
+      bump.first.batch,
+      record {
+        finished = finished ∙ n_is;
+        lane_some = some;
+        lane_within = slice_get_within v.lanes 0 bump.lane bump.there;
+        few = omega (arith, ap length lane.are_last, length-drop lane.finished j, mapped);
+        at = ap (slice_get j) (sym n_is) ∙ here;
+        number = bump.number;
+        sets = ap (λ (o : Option Running). elim o [ None ↦ [] | Some first ↦ first.batch.sets ]) front;
+      },
+    )
 
 -- the operation whose batch ends
 pub record IsEnding (w : World) (h : List Event) (v : VkState) (n : ℕ) (o : Operation) : Type 0 where
@@ -107,17 +109,19 @@ ending_is w h v n b device within first some =
     let stands : Stands w h v = device.stands in
     let n_is : n ≡ suc (n - 1) = omega arith in
     let behind : slice_get (of_queue 0 stands.rest) (n - 1) ≡ Some b =
-      ap (λ k. slice_get (startup w ∷ of_queue 0 stands.rest) k) (sym n_is) ∙ ap (λ (j : List Batch). slice_get (of_queue 0 j) n) (sym stands.begins) ∙ first.at in
+    ap (λ k. slice_get (startup w ∷ of_queue 0 stands.rest) k) (sym n_is) ∙ ap (λ (j : List Batch). slice_get (of_queue 0 j) n) (sym stands.begins) ∙ first.at in
     let member : (j : ℕ) × (slice_get stands.rest j ≡ Some b) × (b.queue ≡ 0) = of_queue_member 0 stands.rest (n - 1) b behind in
     let found : (o : Operation) × IsBatch w h b o = lowered_member w h 0 (startup w ∷ []) stands.rest member.0 b stands.lowered_rest member.1 in
-    let count : submitted_of v 0 ≡ length (of_queue 0 stands.rest) = submitted_is w v stands.rest 0 stands.begins (stands.queues 0 within).numbered in
-    (found.0, record {
-      counter_is = device.finished 0 within ∙ ap (λ k. (0 + k) - 1) first.finished ∙ omega arith;
-      called = ap (λ k. slice_get (operations w h 0) (k - 1)) (sym first.number) ∙ ap (λ q. slice_get (operations w h q) (b.number - 1)) (sym member.2) ∙ found.1.called;
-      sets = first.sets ∙ found.1.sets ∙ ap (λ q. (q, b.number) ∷ []) member.2 ∙ ap (λ k. (0, k) ∷ []) first.number;
-      less = omega (arith, count, slice_get_within (of_queue 0 stands.rest) (n - 1) b behind);
-      some = some;
-    })
+    let count : submitted_of v 0 ≡ length (of_queue 0 stands.rest) = submitted_is w v stands.rest 0 stands.begins (stands.queues 0 within).numbered in (
+      found.0,
+      record {
+        counter_is = device.finished 0 within ∙ ap (λ k. (0 + k) - 1) first.finished ∙ omega arith;
+        called = ap (λ k. slice_get (operations w h 0) (k - 1)) (sym first.number) ∙ ap (λ q. slice_get (operations w h q) (b.number - 1)) (sym member.2) ∙ found.1.called;
+        sets = first.sets ∙ found.1.sets ∙ ap (λ q. (q, b.number) ∷ []) member.2 ∙ ap (λ k. (0, k) ∷ []) first.number;
+        less = omega (arith, count, slice_get_within (of_queue 0 stands.rest) (n - 1) b behind);
+        some = some;
+      },
+    )
 
 -- signals among operations are numbered from the first operation's number on
 numbers_rise : (m : ℕ) (os : List Operation) (s : Signalled) → slice_get (signals_of m os) 0 ≡ Some s → m ≤ s.number
@@ -136,8 +140,9 @@ unless_number : (n : ℕ) (o : Option Signalled) → ((s : Signalled) → o ≡ 
 unless_number n None later = refl
 unless_number n (Some s) later =
     elim (eqb_tells s.number n) [
-      inl same ↦ absurd (omega (arith, later s refl, same.1))
-    | inr other ↦ ap (λ t. if t then Some s else None) other.0 ]
+      | inl same ↦ absurd (omega (arith, later s refl, same.1))
+      | inr other ↦ ap (λ t. if t then Some s else None) other.0
+    ]
 
 -- the first submitted signal is that of the operation that ends, where that is a signal
 signal_found : (n : ℕ) (o : Operation) (more : List Operation) (x : Queued) → x.signals ≡ signals_of n (o ∷ more) → signal_at n x ≡ signal_by n o
@@ -163,11 +168,12 @@ updated_is : (n : ℕ) (o : Operation) (fences : List (List ℕ)) (f : ℕ) (us 
 updated_is n (Execute cs) fences f us is = is ∙ ap (λ xs. Some xs) (sym (append-nil us))
 updated_is n (Signal g v) fences f us is =
     elim (eqb_tells g.0 f) [
-      inl same ↦
-        subst (λ k. slice_get (changed_at (λ xs. xs ++ v ∷ []) k fences) f ≡ Some (us ++ v ∷ [])) (sym same.1) (get_changed (λ xs. xs ++ v ∷ []) fences f ∙ ap (option_map (λ xs. xs ++ v ∷ [])) is)
-        ∙ ap (λ t. Some (us ++ (if t then v ∷ [] else []))) (sym same.0)
-    | inr other ↦
-        get_changed_other (λ xs. xs ++ v ∷ []) fences g.0 f other.1 ∙ is ∙ ap (λ xs. Some xs) (sym (append-nil us)) ∙ ap (λ t. Some (us ++ (if t then v ∷ [] else []))) (sym other.0) ]
+      | inl same ↦
+          subst (λ k. slice_get (changed_at (λ xs. xs ++ v ∷ []) k fences) f ≡ Some (us ++ v ∷ [])) (sym same.1) (get_changed (λ xs. xs ++ v ∷ []) fences f ∙ ap (option_map (λ xs. xs ++ v ∷ [])) is)
+          ∙ ap (λ t. Some (us ++ (if t then v ∷ [] else []))) (sym same.0)
+      | inr other ↦
+          get_changed_other (λ xs. xs ++ v ∷ []) fences g.0 f other.1 ∙ is ∙ ap (λ xs. Some xs) (sym (append-nil us)) ∙ ap (λ t. Some (us ++ (if t then v ∷ [] else []))) (sym other.0)
+    ]
 
 updated_length : (s : Option Signalled) (fences : List (List ℕ)) → length (updated_by s fences) ≡ length fences
 updated_length None fences = refl
@@ -200,7 +206,7 @@ device_goes w h v u is valid objects journal counters finished opening = record 
     begins = journal ∙ is.stands.begins;
     lowered_rest = is.stands.lowered_rest;
     queues = λ q within. let at : StandsAt w h is.stands.rest v q = is.stands.queues q within in
-      record { numbered = at.numbered; of_called = at.of_called; counter_is = counters q within ∙ at.counter_is; done = at.done };
+        record { numbered = at.numbered; of_called = at.of_called; counter_is = counters q within ∙ at.counter_is; done = at.done };
   };
   named = ap (list_all (λ b. nat_lt b.queue (length w.queues))) journal ∙ is.named;
   finished = λ q within. is.finished q within ∙ sym (finished q within);
@@ -212,7 +218,7 @@ held_goes : (w : World) (h : List Event) (v u : VkState) (held : List Queued) �
 held_goes w h v u held journal are = record {
   count = are.count;
   each = λ q x at. let is : IsHeld w h v q x = are.each q x at in
-    record { submitted_is = is.submitted_is ∙ ap (λ j. next_number q j - 1) (sym journal); within = is.within; rest = is.rest; last_is = is.last_is; pending = is.pending };
+      record { submitted_is = is.submitted_is ∙ ap (λ j. next_number q j - 1) (sym journal); within = is.within; rest = is.rest; last_is = is.last_is; pending = is.pending };
 }
 
 -- a step that ends no operation's batch
@@ -233,25 +239,25 @@ pub consistent_pass : (w : World) (h : List Event) (lists : List Listed) (seats 
 consistent_pass w h lists seats fences held v q n is enabled =
     let u : VkState = after_step v (Passed q n) in
     consistent_goes w h lists seats fences held v u is refl
-      (device_goes w h v u is.device (step_valid v (Passed q n) enabled is.device.valid) (step_matches (plan_of_world w) v (Passed q n) is.device.objects) refl (λ p within. refl)
-        (λ p within. ap (λ k. (first_number p + k) - 1) (same_batches v u p refl (λ i. lane_length lane_after_pass q i v (λ l. refl))))
-        (λ some. is.device.opening (omega (arith, some, same_batches v u 0 refl (λ i. lane_length lane_after_pass q i v (λ l. refl))))))
+    (device_goes w h v u is.device (step_valid v (Passed q n) enabled is.device.valid) (step_matches (plan_of_world w) v (Passed q n) is.device.objects) refl (λ p within. refl)
+    (λ p within. ap (λ k. (first_number p + k) - 1) (same_batches v u p refl (λ i. lane_length lane_after_pass q i v (λ l. refl))))
+    (λ some. is.device.opening (omega (arith, some, same_batches v u 0 refl (λ i. lane_length lane_after_pass q i v (λ l. refl))))))
 
 pub consistent_run : (w : World) (h : List Event) (lists : List Listed) (seats : List Seat) (fences : List (List ℕ)) (held : List Queued) (v : VkState) (q n k : ℕ) →
     IsConsistent w h lists seats fences held v → IsEnabled v (Ran q n k) → IsConsistent w h lists seats fences held (after_step v (Ran q n k))
 consistent_run w h lists seats fences held v q n k is enabled =
     let u : VkState = after_step v (Ran q n k) in
     consistent_goes w h lists seats fences held v u is refl
-      (device_goes w h v u is.device (step_valid v (Ran q n k) enabled is.device.valid) (step_matches (plan_of_world w) v (Ran q n k) is.device.objects) refl (λ p within. refl)
-        (λ p within. ap (λ i. (first_number p + i) - 1) (same_batches v u p refl (λ i. lane_length (lane_after_run n k) q i v (λ l. length_changed (with_done k) l.batches (place_of n l.batches)))))
-        (λ some. is.device.opening (omega (arith, some, same_batches v u 0 refl (λ i. lane_length (lane_after_run n k) q i v (λ l. length_changed (with_done k) l.batches (place_of n l.batches)))))))
+    (device_goes w h v u is.device (step_valid v (Ran q n k) enabled is.device.valid) (step_matches (plan_of_world w) v (Ran q n k) is.device.objects) refl (λ p within. refl)
+    (λ p within. ap (λ i. (first_number p + i) - 1) (same_batches v u p refl (λ i. lane_length (lane_after_run n k) q i v (λ l. length_changed (with_done k) l.batches (place_of n l.batches)))))
+    (λ some. is.device.opening (omega (arith, some, same_batches v u 0 refl (λ i. lane_length (lane_after_run n k) q i v (λ l. length_changed (with_done k) l.batches (place_of n l.batches)))))))
 
 -- the one queue has one more finished batch
 finished_bump : (w : World) (v : VkState) (n : ℕ) (b : Batch) → IsFirst w v n b → finished_of (after_step v (Bumped 0 n)) 0 ≡ n + 1
 finished_bump w v n b first =
     let lane : lane_of (after_step v (Bumped 0 n)) 0 ≡ lane_after_bump (lane_of v 0) = get_or_changed lane_after_bump v.lanes 0 no_lane first.lane_within in
     let fewer : length (lane_of (after_step v (Bumped 0 n)) 0).batches ≡ length (lane_of v 0).batches - 1 =
-      ap (λ (l : Lane). length l.batches) lane ∙ length-drop 1 (lane_of v 0).batches in
+    ap (λ (l : Lane). length l.batches) lane ∙ length-drop 1 (lane_of v 0).batches in
     omega (arith, fewer, first.finished, first.lane_some, first.few, slice_get_within (of_queue 0 v.journal) n b first.at)
 
 set_there : (i n : ℕ) (ts : List ℕ) → i < length ts → get_or (set ts i n) i 0 ≡ n
@@ -274,16 +280,16 @@ consistent_start w h lists seats fences held v is within enabled =
     let found : (b : Batch) × IsFirst w v 0 b = first_is w v 0 is.device.valid enabled in
     let one : length w.queues ≡ 1 = omega (arith, is.world.one_queue) in
     let b_is : startup w ≡ found.0 =
-      let e : Some (startup w) ≡ Some found.0 = ap (λ (j : List Batch). slice_get (of_queue 0 j) 0) (sym is.device.stands.begins) ∙ found.1.at in grind arith in
+    let e : Some (startup w) ≡ Some found.0 = ap (λ (j : List Batch). slice_get (of_queue 0 j) 0) (sym is.device.stands.begins) ∙ found.1.at in grind arith in
     let sets : sets_of (lane_of v 0) ≡ (1, 1) ∷ [] = found.1.sets ∙ ap (λ (x : Batch). x.sets) (sym b_is) ∙ ap (λ k. (k, 1) ∷ []) one in
     let counters : (q : ℕ) → q < length w.queues → counter_of u q ≡ counter_of v q =
-      λ q inside. ap (λ ss. get_or (after_sets ss v.timelines) q 0) sets ∙ set_elsewhere 1 q 1 v.timelines (λ e. omega (arith, inside, one, e)) in
+    λ q inside. ap (λ ss. get_or (after_sets ss v.timelines) q 0) sets ∙ set_elsewhere 1 q 1 v.timelines (λ e. omega (arith, inside, one, e)) in
     consistent_goes w h lists seats fences held v u is refl
-      (device_goes w h v u is.device (step_valid v (Bumped 0 0) enabled is.device.valid) (step_matches (plan_of_world w) v (Bumped 0 0) is.device.objects) refl counters
-        (λ q inside. subst (λ k. (first_number k + finished_of u k) - 1 ≡ (first_number k + finished_of v k) - 1) (let zeroth : 0 ≡ q = omega (arith, inside, one) in zeroth)
-          (omega (arith, finished_bump w v 0 found.0 found.1, found.1.finished)))
-        (λ some. ap (λ ss. get_or (after_sets ss v.timelines) (length w.queues) 0) sets ∙ ap (λ k. get_or (set v.timelines 1 1) k 0) one
-          ∙ set_there 1 1 v.timelines (omega (arith, is.device.objects.timelines, one))))
+    (device_goes w h v u is.device (step_valid v (Bumped 0 0) enabled is.device.valid) (step_matches (plan_of_world w) v (Bumped 0 0) is.device.objects) refl counters
+    (λ q inside. subst (λ k. (first_number k + finished_of u k) - 1 ≡ (first_number k + finished_of v k) - 1) (let zeroth : 0 ≡ q = omega (arith, inside, one) in zeroth)
+    (omega (arith, finished_bump w v 0 found.0 found.1, found.1.finished)))
+    (λ some. ap (λ ss. get_or (after_sets ss v.timelines) (length w.queues) 0) sets ∙ ap (λ k. get_or (set v.timelines 1 1) k 0) one
+    ∙ set_there 1 1 v.timelines (omega (arith, is.device.objects.timelines, one))))
 
 operation_lists : (s : State) (o : Option Operation) (q : ℕ) → (desk_after_operation (dropped s.desk q) o).lists ≡ s.desk.lists
 operation_lists s None q = refl
@@ -298,15 +304,15 @@ signal_of_head w h v n x o holds ending called less =
     let c : ℕ = counter h 0 in
     let first : slice_get (take x.submitted os) c ≡ Some o = get_of_take x.submitted os c less ∙ called in
     signal_found n o (drop (c + 1) (take x.submitted os)) x
-      (holds.pending ∙ ap (signals_of (c + 1)) (drop_here c (take x.submitted os) o first)
-        ∙ ap (λ k. signals_of k (o ∷ drop (c + 1) (take x.submitted os))) (omega (arith, ending.counter_is, ending.some)))
+    (holds.pending ∙ ap (signals_of (c + 1)) (drop_here c (take x.submitted os) o first)
+    ∙ ap (λ k. signals_of k (o ∷ drop (c + 1) (take x.submitted os))) (omega (arith, ending.counter_is, ending.some)))
 
 fences_end : (w : World) (h : List Event) (q : QueueId) (n : ℕ) (o : Operation) (fences : List (List ℕ)) → AreFences w h fences → head_of (state_after w h).desk q.0 ≡ Some o →
     AreFences w (h ++ event.Queue q ∷ []) (updated_by (signal_by n o) fences)
 fences_end w h q n o fences are head = record {
   count = updated_length (signal_by n o) fences ∙ are.count;
   each = λ f within. updated_is n o fences f (applied_updates w h f) (are.each f within)
-    ∙ ap (λ us. Some us) (sym (applied_append w h (event.Queue q) f ∙ ap (λ y. applied_updates w h f ++ update_of_operation f y) head));
+      ∙ ap (λ us. Some us) (sym (applied_append w h (event.Queue q) f ∙ ap (λ y. applied_updates w h f ++ update_of_operation f y) head));
 }
 
 held_end : (w : World) (h : List Event) (v u : VkState) (q : QueueId) (n : ℕ) (o : Operation) (x : Queued) (held : List Queued) → AreHeld w h v held → slice_get held 0 ≡ Some x →
@@ -317,14 +323,14 @@ held_end w h v u q n o x held are at one one_more less called =
     record {
       count = length_changed (without s) held 0 ∙ are.count;
       each = λ p y there.
-        let zeroth : p ≡ 0 = omega (arith, slice_get_within (changed_at (without s) 0 held) p y there, length_changed (without s) held 0, are.count, one) in
-        let here : slice_get (changed_at (without s) 0 held) 0 ≡ Some y = ap (slice_get (changed_at (without s) 0 held)) (sym zeroth) ∙ there in
-        let is_y : y ≡ without s x = let e : Some (without s x) ≡ Some y = ap (option_map (without s)) (sym at) ∙ sym (get_changed (without s) held 0) ∙ here in grind arith in
-        let keeps : ((without s x).submitted ≡ x.submitted) × ((without s x).last_signal ≡ x.last_signal) × ((without s x).operations ≡ x.operations) = without_keeps s x in
-        subst (λ k. IsHeld w (h ++ event.Queue q ∷ []) (after_step v (Bumped 0 n)) k y) (sym zeroth)
+          let zeroth : p ≡ 0 = omega (arith, slice_get_within (changed_at (without s) 0 held) p y there, length_changed (without s) held 0, are.count, one) in
+          let here : slice_get (changed_at (without s) 0 held) 0 ≡ Some y = ap (slice_get (changed_at (without s) 0 held)) (sym zeroth) ∙ there in
+          let is_y : y ≡ without s x = let e : Some (without s x) ≡ Some y = ap (option_map (without s)) (sym at) ∙ sym (get_changed (without s) held 0) ∙ here in grind arith in
+          let keeps : ((without s x).submitted ≡ x.submitted) × ((without s x).last_signal ≡ x.last_signal) × ((without s x).operations ≡ x.operations) = without_keeps s x in
+          subst (λ k. IsHeld w (h ++ event.Queue q ∷ []) (after_step v (Bumped 0 n)) k y) (sym zeroth)
           (held_complete w h (event.Queue q) v (after_step v (Bumped 0 n)) 0 x y o (are.each 0 x at) one_more refl less called refl
-            (ap (λ (z : Queued). z.submitted) is_y ∙ keeps.0) (ap (λ (z : Queued). z.last_signal) is_y ∙ keeps.1) (ap (λ (z : Queued). z.operations) is_y ∙ keeps.2)
-            (ap (λ (z : Queued). z.signals) is_y ∙ without_is n o x));
+          (ap (λ (z : Queued). z.submitted) is_y ∙ keeps.0) (ap (λ (z : Queued). z.last_signal) is_y ∙ keeps.1) (ap (λ (z : Queued). z.operations) is_y ∙ keeps.2)
+          (ap (λ (z : Queued). z.signals) is_y ∙ without_is n o x));
     }
 
 device_end : (w : World) (h : List Event) (v : VkState) (q : QueueId) (n : ℕ) (b : Batch) (o : Operation) → IsDevice w h v → length w.queues ≡ 1 → completions_by 0 (event.Queue q) ≡ 1 →
@@ -340,17 +346,17 @@ device_end w h v q n b o is one one_more first ending valid =
       valid = valid;
       objects = step_matches (plan_of_world w) v (Bumped 0 n) is.objects;
       stands = stands_complete w h e v u is.stands refl
-        (λ p inside. subst (λ k. counter_of u k ≡ counter_of v k + completions_by k e) (let zeroth : 0 ≡ p = omega (arith, inside, one) in zeroth)
+          (λ p inside. subst (λ k. counter_of u k ≡ counter_of v k + completions_by k e) (let zeroth : 0 ≡ p = omega (arith, inside, one) in zeroth)
           (omega (arith, now, before, one_more, ending.some)))
-        (λ p rest begins inside. subst (λ k. counter_of v k + completions_by k e ≤ length (of_queue k rest)) (let zeroth : 0 ≡ p = omega (arith, inside, one) in zeroth)
+          (λ p rest begins inside. subst (λ k. counter_of v k + completions_by k e ≤ length (of_queue k rest)) (let zeroth : 0 ≡ p = omega (arith, inside, one) in zeroth)
           (let same : is.stands.rest ≡ rest = let both : startup w ∷ is.stands.rest ≡ startup w ∷ rest = sym is.stands.begins ∙ begins in grind arith in
-           let count : submitted_of v 0 ≡ length (of_queue 0 is.stands.rest) = submitted_is w v is.stands.rest 0 is.stands.begins (is.stands.queues 0 within).numbered in
-           omega (arith, before, one_more, ending.less, count, ap (λ r. length (of_queue 0 r)) same, ending.some)));
+          let count : submitted_of v 0 ≡ length (of_queue 0 is.stands.rest) = submitted_is w v is.stands.rest 0 is.stands.begins (is.stands.queues 0 within).numbered in
+          omega (arith, before, one_more, ending.less, count, ap (λ r. length (of_queue 0 r)) same, ending.some)));
       named = is.named;
       finished = λ p inside. subst (λ k. counter (h ++ e ∷ []) k ≡ (first_number k + finished_of u k) - 1) (let zeroth : 0 ≡ p = omega (arith, inside, one) in zeroth)
-        (omega (arith, counter_append 0 h e, one_more, ending.counter_is, ending.some, finished_bump w v n b first));
+          (omega (arith, counter_append 0 h e, one_more, ending.counter_is, ending.some, finished_bump w v n b first));
       opening = λ some. ap (λ ss. get_or (after_sets ss v.timelines) (length w.queues) 0) ending.sets
-        ∙ set_elsewhere 0 (length w.queues) n v.timelines (λ e. omega (arith, e, one)) ∙ is.opening (omega (arith, first.finished, ending.some));
+          ∙ set_elsewhere 0 (length w.queues) n v.timelines (λ e. omega (arith, e, one)) ∙ is.opening (omega (arith, first.finished, ending.some));
     }
 
 -- the end of an operation's batch
@@ -374,7 +380,7 @@ consistent_end w h lists seats fences held v q n x is zeroth within some enabled
     let rest : HoldsRest (state_after w h).desk 0 c os = called_after SameButWords w 0 h queue.0 queue.1 is.run in
     let head : slice_get (drop c os) 0 ≡ Some o = slice_get_drop c os ∙ called in
     let called_is : called_of (state_after w h).desk q.0 ≡ drop c os =
-      ap (λ k. called_of (state_after w h).desk k) zeroth ∙ ap (λ (y : Option (List Operation)). elim y [ None ↦ [] | Some z ↦ z ]) rest.rest in
+    ap (λ k. called_of (state_after w h).desk k) zeroth ∙ ap (λ (y : Option (List Operation)). elim y [ None ↦ [] | Some z ↦ z ]) rest.rest in
     let head_is : head_of (state_after w h).desk q.0 ≡ Some o = ap (λ ys. slice_get ys 0) called_is ∙ head in
     let signal : signal_at n x ≡ signal_by n o = signal_of_head w h v n x o holds ending.1 called less in
     record {

@@ -79,14 +79,20 @@ reply_same None (call.Signal q f v) m n same = refl
 reply_same None (call.HostWait f v) m n same = refl
 reply_same None (call.Write b o ws) m n same = refl
 reply_same None (call.Read b o k) m n same =
-    omega (arith, length-take (k / 4) (drop (o / 4) (words_at m b.0)), length-take (k / 4) (drop (o / 4) (words_at n b.0)),
-      length-drop (o / 4) (words_at m b.0), length-drop (o / 4) (words_at n b.0), size_at m n b.0 same)
+    omega (
+      arith,
+      length-take (k / 4) (drop (o / 4) (words_at m b.0)),
+      length-take (k / 4) (drop (o / 4) (words_at n b.0)),
+      length-drop (o / 4) (words_at m b.0),
+      length-drop (o / 4) (words_at n b.0),
+      size_at m n b.0 same,
+    )
 
 pub replies_alike : (w : World) (s : State) (lists : List Listed) (v : VkState) (c : Call) → lists ≡ s.desk.lists → map length v.words ≡ map length s.memory →
     SameButWords (reply_by w lists v c) (reply_of w s c)
 replies_alike w s lists v c are sizes =
     subst (λ r. SameButWords (reply_or r (good_reply v.words c)) (reply_of w s c)) (sym (refusal_is w s.desk lists c are))
-      (reply_same (refusal w s.desk c) c v.words s.memory sizes)
+    (reply_same (refusal w s.desk c) c v.words s.memory sizes)
 
 or_lists : (r : Option Hresult) (a b x y : Desk) → a.lists ≡ x.lists → b.lists ≡ y.lists → (desk_or r a b).lists ≡ (desk_or r x y).lists
 or_lists None a b x y good bad = good
@@ -101,7 +107,7 @@ lists_by_lists : (w : World) (d : Desk) (t : ℕ) (c : Call) → lists_by w d.li
 lists_by_lists w d t (call.Recording l what) = or_lists (refusal w d (call.Recording l what)) (effect w (desk_of d.lists) 0 (call.Recording l what)) (desk_of d.lists) (effect w d t (call.Recording l what)) d refl refl
 lists_by_lists w d t (call.Close l) =
     or_lists (refusal w d (call.Close l)) (effect w (desk_of d.lists) 0 (call.Close l)) (after_refused (desk_of d.lists) (call.Close l)) (effect w d t (call.Close l)) (after_refused d (call.Close l))
-      refl (failed_lists (is_recording (list_of d.lists l.0)) l.0 (desk_of d.lists) d refl)
+    refl (failed_lists (is_recording (list_of d.lists l.0)) l.0 (desk_of d.lists) d refl)
 lists_by_lists w d t (call.Reset l a) = or_lists (refusal w d (call.Reset l a)) (effect w (desk_of d.lists) 0 (call.Reset l a)) (desk_of d.lists) (effect w d t (call.Reset l a)) d refl refl
 lists_by_lists w d t (call.Execute q ls) = or_lists (refusal w d (call.Execute q ls)) (effect w (desk_of d.lists) 0 (call.Execute q ls)) (desk_of d.lists) (effect w d t (call.Execute q ls)) d refl refl
 lists_by_lists w d t (call.Signal q f v) = refl
@@ -136,7 +142,7 @@ seat_is w h fences (call.Execute q ls) are named s = refl
 seat_is w h fences (call.Signal q f v) are named s = refl
 seat_is w h fences (call.HostWait f v) are named s =
     ap (λ us. let x : Seat = record { made = s.made + 1; waits = Some (record { fence = f; value = v; since = length us - 1 }) } in x)
-      (get_or_from_slice_get fences f.0 (applied_updates w h f.0) [] (are.each f.0 named))
+    (get_or_from_slice_get fences f.0 (applied_updates w h f.0) [] (are.each f.0 named))
 seat_is w h fences (call.Write b o ws) are named s = refl
 seat_is w h fences (call.Read b o n) are named s = refl
 
@@ -154,7 +160,7 @@ pub seats_are : (w : World) (h : List Event) (fences : List (List ℕ)) (t : Thr
     names_a_fence w c → AreSeats w (h ++ event.Call t c r ∷ []) (changed_at (seat_after fences c) t.0 seats)
 seats_are w h fences t c r seats are fences_are named =
     subst (AreSeats w (h ++ event.Call t c r ∷ [])) (sym (changed_ext (seat_after fences c) (call_seat w h c) t.0 seats (seat_is w h fences c fences_are named)))
-      (seats_call w h t c r seats are (λ f v within. ap (λ k. is_met (applied_updates w h f) k v) (sym (current_is_last w h f)) ∙ met_at_call w h f v within) named)
+    (seats_call w h t c r seats are (λ f v within. ap (λ k. is_met (applied_updates w h f) k v) (sym (current_is_last w h f)) ∙ met_at_call w h f v within) named)
 
 mapped_some : {A B : Type 0} (f : A → B) (o : Option A) (y : B) → option_map f o ≡ Some y → (x : A) × (o ≡ Some x) × (y ≡ f x)
 mapped_some f None y is = absurd (cc)
@@ -172,13 +178,16 @@ pushed_at : (o : Operation) (p q : ℕ) (held : List Queued) (y : Queued) → sl
     (x : Queued) × (slice_get held q ≡ Some x) × (y ≡ called_on (if (p == q) then o ∷ [] else []) x)
 pushed_at o p q held y is =
     elim (eqb_tells p q) [
-      inl same ↦
-        let at : slice_get (changed_at (with_operation o) p held) p ≡ Some y = ap (slice_get (changed_at (with_operation o) p held)) same.1 ∙ is in
-        let found : (x : Queued) × (slice_get held p ≡ Some x) × (y ≡ with_operation o x) = mapped_some (with_operation o) (slice_get held p) y (sym (get_changed (with_operation o) held p) ∙ at) in
-        (found.0, ap (slice_get held) (sym same.1) ∙ found.1, found.2 ∙ ap (λ t. called_on (if t then o ∷ [] else []) found.0) (sym same.0))
-    | inr other ↦
-        (y, sym (get_changed_other (with_operation o) held p q other.1) ∙ is,
-          sym (none_called y) ∙ ap (λ t. called_on (if t then o ∷ [] else []) y) (sym other.0)) ]
+      | inl same ↦
+          let at : slice_get (changed_at (with_operation o) p held) p ≡ Some y = ap (slice_get (changed_at (with_operation o) p held)) same.1 ∙ is in
+          let found : (x : Queued) × (slice_get held p ≡ Some x) × (y ≡ with_operation o x) = mapped_some (with_operation o) (slice_get held p) y (sym (get_changed (with_operation o) held p) ∙ at) in
+          (found.0, ap (slice_get held) (sym same.1) ∙ found.1, found.2 ∙ ap (λ t. called_on (if t then o ∷ [] else []) found.0) (sym same.0))
+      | inr other ↦ (
+        y,
+        sym (get_changed_other (with_operation o) held p q other.1) ∙ is,
+        sym (none_called y) ∙ ap (λ t. called_on (if t then o ∷ [] else []) y) (sym other.0),
+      )
+    ]
 
 -- the queues after a call, one by one
 held_at : (r : Option Hresult) (d : Desk) (c : Call) (q : ℕ) (held : List Queued) (y : Queued) → slice_get (held_or r (pushes d.lists c held) held) q ≡ Some y →
@@ -213,12 +222,12 @@ held_are w h v u lists held t c r are same journal =
     let d : Desk = (state_after w h).desk in
     let e : Event = event.Call t c r in
     let by : held_by w lists c held ≡ held_or (refusal w d c) (pushes d.lists c held) held =
-      ap (λ ls. held_by w ls c held) same ∙ ap (λ o. held_or o (pushes d.lists c held) held) (refusal_by_lists w d c) in
+    ap (λ ls. held_by w ls c held) same ∙ ap (λ o. held_or o (pushes d.lists c held) held) (refusal_by_lists w d c) in
     record {
       count = ap length by ∙ held_length (refusal w d c) d.lists c held ∙ are.count;
       each = λ q y at.
-        let found : (x : Queued) × (slice_get held q ≡ Some x) × (y ≡ called_on (called_by w d q e) x) = held_at (refusal w d c) d c q held y (ap (λ ys. slice_get ys q) (sym by) ∙ at) in
-        held_event w h e v u q found.0 y (are.each q found.0 found.1) refl journal
+          let found : (x : Queued) × (slice_get held q ≡ Some x) × (y ≡ called_on (called_by w d q e) x) = held_at (refusal w d c) d c q held y (ap (λ ys. slice_get ys q) (sym by) ∙ at) in
+          held_event w h e v u q found.0 y (are.each q found.0 found.1) refl journal
           (ap (λ (x : Queued). x.submitted) found.2) (ap (λ (x : Queued). x.last_signal) found.2) (ap (λ (x : Queued). x.signals) found.2) (ap (λ (x : Queued). x.operations) found.2);
     }
 

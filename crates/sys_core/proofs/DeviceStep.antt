@@ -37,8 +37,9 @@ pub step_means : (v : VkState) (k : ℕ) (s : Stepped) → (k < length (enabled_
     (length (enabled_steps v) ≤ k → s ≡ Free) → IsEnabled v s ⊎ (s ≡ Free)
 step_means v k s named free =
     elim (leb_tells (length (enabled_steps v)) k) [
-      inl past ↦ inr (free past.1)
-    | inr within ↦ inl (enabled_means v k s (named within.1)) ]
+      | inl past ↦ inr (free past.1)
+      | inr within ↦ inl (enabled_means v k s (named within.1))
+    ]
 
 -- the same, of what a step is
 pub means_of : (v : VkState) (k : ℕ) (s t : Stepped) → s ≡ t → (k < length (enabled_steps v) → slice_get (enabled_steps v) k ≡ Some s) →
@@ -84,17 +85,19 @@ module _ {D : Type 0} (state : D → VkState) (plan_of : D → Option DevicePlan
       Keeps state plan_of w h r e
   keeps_pass r e q n seems means after plan =
       elim means [
-        inl enabled ↦ keeps_goes r e (after_step (state d) (Passed q n)) seems
-          (consistent_pass w h p.lists p.seats (map updates_in p.fences) (map queued p.held) (state d) q n keeps.consistent enabled) after plan
-      | inr free ↦ absurd (cc) ]
+        | inl enabled ↦ keeps_goes r e (after_step (state d) (Passed q n)) seems
+            (consistent_pass w h p.lists p.seats (map updates_in p.fences) (map queued p.held) (state d) q n keeps.consistent enabled) after plan
+        | inr free ↦ absurd (cc)
+      ]
 
   pub keeps_ran : (r : Parts) (e : D) (q n k : ℕ) → Seems p r → (IsEnabled (state d) (Ran q n k) ⊎ (Ran q n k ≡ Free)) → state e ≡ after_step (state d) (Ran q n k) → plan_of e ≡ plan_of d →
       Keeps state plan_of w h r e
   keeps_ran r e q n k seems means after plan =
       elim means [
-        inl enabled ↦ keeps_goes r e (after_step (state d) (Ran q n k)) seems
-          (consistent_run w h p.lists p.seats (map updates_in p.fences) (map queued p.held) (state d) q n k keeps.consistent enabled) after plan
-      | inr free ↦ absurd (cc) ]
+        | inl enabled ↦ keeps_goes r e (after_step (state d) (Ran q n k)) seems
+            (consistent_run w h p.lists p.seats (map updates_in p.fences) (map queued p.held) (state d) q n k keeps.consistent enabled) after plan
+        | inr free ↦ absurd (cc)
+      ]
 
   one : length w.queues ≡ 1
   one = keeps.consistent.world.one_queue
@@ -103,8 +106,9 @@ module _ {D : Type 0} (state : D → VkState) (plan_of : D → Option DevicePlan
   pub bump_queue : (q n : ℕ) → (IsEnabled (state d) (Bumped q n) ⊎ (Bumped q n ≡ Free)) → (q ≡ 0) × IsEnabled (state d) (Bumped q n)
   bump_queue q n means =
       elim means [
-        inl enabled ↦ (omega (arith, slice_get_within (state d).lanes q enabled.lane enabled.there, keeps.consistent.device.objects.lanes, one), enabled)
-      | inr free ↦ absurd (cc) ]
+        | inl enabled ↦ (omega (arith, slice_get_within (state d).lanes q enabled.lane enabled.there, keeps.consistent.device.objects.lanes, one), enabled)
+        | inr free ↦ absurd (cc)
+      ]
 
   pub held_some : 0 < length p.held
   held_some = omega (arith, length-map p.held queued, keeps.consistent.held_are.count, one)
@@ -115,10 +119,10 @@ module _ {D : Type 0} (state : D → VkState) (plan_of : D → Option DevicePlan
   keeps_start r e q n seems means zeroth after plan =
       let bump : (q ≡ 0) × IsEnabled (state d) (Bumped q n) = bump_queue q n means in
       let enabled : IsEnabled (state d) (Bumped 0 0) =
-        subst (λ k. IsEnabled (state d) (Bumped 0 k)) zeroth (subst (λ i. IsEnabled (state d) (Bumped i n)) bump.0 bump.1) in
+      subst (λ k. IsEnabled (state d) (Bumped 0 k)) zeroth (subst (λ i. IsEnabled (state d) (Bumped i n)) bump.0 bump.1) in
       keeps_goes r e (after_step (state d) (Bumped 0 0)) seems
-        (consistent_start w h p.lists p.seats (map updates_in p.fences) (map queued p.held) (state d) keeps.consistent (omega (arith, one)) enabled)
-        (after ∙ ap (λ i. after_step (state d) (Bumped i n)) bump.0 ∙ ap (λ k. after_step (state d) (Bumped 0 k)) zeroth) plan
+      (consistent_start w h p.lists p.seats (map updates_in p.fences) (map queued p.held) (state d) keeps.consistent (omega (arith, one)) enabled)
+      (after ∙ ap (λ i. after_step (state d) (Bumped i n)) bump.0 ∙ ap (λ k. after_step (state d) (Bumped 0 k)) zeroth) plan
 
   -- the end of an operation's batch
   pub keeps_end : (r : Parts) (e : D) (q n : ℕ) (y : Held) → (IsEnabled (state d) (Bumped q n) ⊎ (Bumped q n ≡ Free)) → 0 < n → slice_get p.held 0 ≡ Some y →
@@ -130,15 +134,15 @@ module _ {D : Type 0} (state : D → VkState) (plan_of : D → Option DevicePlan
       let enabled : IsEnabled (state d) (Bumped 0 n) = subst (λ i. IsEnabled (state d) (Bumped i n)) bump.0 bump.1 in
       let k : List Event = h ++ event.Queue (record { 0 = q }) ∷ [] in
       let is : IsConsistent w k p.lists p.seats (updated_by (signal_at n (queued y)) (map updates_in p.fences)) (changed_at (without (signal_at n (queued y))) 0 (map queued p.held)) (after_step (state d) (Bumped 0 n)) =
-        consistent_end w h p.lists p.seats (map updates_in p.fences) (map queued p.held) (state d) (record { 0 = q }) n (queued y) keeps.consistent bump.0 (omega (arith, one)) some enabled
-          (slice_get-map queued p.held 0 ∙ ap (option_map queued) at) in
+      consistent_end w h p.lists p.seats (map updates_in p.fences) (map queued p.held) (state d) (record { 0 = q }) n (queued y) keeps.consistent bump.0 (omega (arith, one)) some enabled
+      (slice_get-map queued p.held 0 ∙ ap (option_map queued) at) in
       record {
         consistent =
-          subst (λ x. IsConsistent w k r.lists r.seats (map updates_in r.fences) (map queued r.held) x) (sym (after ∙ ap (λ i. after_step (state d) (Bumped i n)) bump.0))
-          (subst (λ x. IsConsistent w k r.lists r.seats (map updates_in r.fences) x (after_step (state d) (Bumped 0 n))) (sym held)
-          (subst (λ x. IsConsistent w k r.lists r.seats x (changed_at (without (signal_at n (queued y))) 0 (map queued p.held)) (after_step (state d) (Bumped 0 n))) (sym fences)
-          (subst (λ x. IsConsistent w k r.lists x (updated_by (signal_at n (queued y)) (map updates_in p.fences)) (changed_at (without (signal_at n (queued y))) 0 (map queued p.held)) (after_step (state d) (Bumped 0 n))) (sym seats)
-          (subst (λ x. IsConsistent w k x p.seats (updated_by (signal_at n (queued y)) (map updates_in p.fences)) (changed_at (without (signal_at n (queued y))) 0 (map queued p.held)) (after_step (state d) (Bumped 0 n))) (sym lists) is))));
+            subst (λ x. IsConsistent w k r.lists r.seats (map updates_in r.fences) (map queued r.held) x) (sym (after ∙ ap (λ i. after_step (state d) (Bumped i n)) bump.0))
+            (subst (λ x. IsConsistent w k r.lists r.seats (map updates_in r.fences) x (after_step (state d) (Bumped 0 n))) (sym held)
+            (subst (λ x. IsConsistent w k r.lists r.seats x (changed_at (without (signal_at n (queued y))) 0 (map queued p.held)) (after_step (state d) (Bumped 0 n))) (sym fences)
+            (subst (λ x. IsConsistent w k r.lists x (updated_by (signal_at n (queued y)) (map updates_in p.fences)) (changed_at (without (signal_at n (queued y))) 0 (map queued p.held)) (after_step (state d) (Bumped 0 n))) (sym seats)
+            (subst (λ x. IsConsistent w k x p.seats (updated_by (signal_at n (queued y)) (map updates_in p.fences)) (changed_at (without (signal_at n (queued y))) 0 (map queued p.held)) (after_step (state d) (Bumped 0 n))) (sym lists) is))));
         plan = plan ∙ keeps.plan;
       }
 
@@ -160,6 +164,6 @@ module _ {D : Type 0} (state : D → VkState) (plan_of : D → Option DevicePlan
       let first : y ≡ get_or p.held 0 y = subst (λ i. y ≡ get_or p.held i y) bump.0 at in
       let found : slice_get p.held 0 ≡ Some y = held_at state plan_of w h p d keeps 0 y (omega (arith, one)) first in
       keeps_end (record { lists = p.lists; seats = p.seats; fences = fences; held = slice_set p.held q z }) e q n y means (by_cases n later) found refl refl
-        (updates ∙ ap (λ x. updated_by x (map updates_in p.fences)) signal)
-        (ap (λ i. map queued (slice_set p.held i z)) bump.0 ∙ map_write queued (without (signal_at n (queued y))) p.held 0 y z held_some first (rest ∙ ap (λ x. without x (queued y)) signal))
-        after plan
+      (updates ∙ ap (λ x. updated_by x (map updates_in p.fences)) signal)
+      (ap (λ i. map queued (slice_set p.held i z)) bump.0 ∙ map_write queued (without (signal_at n (queued y))) p.held 0 y z held_some first (rest ∙ ap (λ x. without x (queued y)) signal))
+      after plan

@@ -30,13 +30,15 @@ few_words w b world = by_resource (resource_of w b) refl
   where
     size : Option Resource → ℕ
     size o = elim o [ None ↦ 0 | Some r ↦ words_of_resource r ]
+
     small : (r : Resource) → is_small_resource (Some r) ≡ true → words_of_resource r ≤ 262144
     small (Buffer h n) is = leb-true n 262144 is
+
     by_resource : (o : Option Resource) → resource_of w b ≡ o → words_in w b ≤ 262144
     by_resource None is = let e : words_in w b ≡ 0 = ap (λ (o : Option Resource). elim o [ None ↦ 0 | Some r ↦ words_of_resource r ]) is in omega (arith, e)
     by_resource (Some r) is =
-      let e : words_in w b ≡ words_of_resource r = ap (λ (o : Option Resource). elim o [ None ↦ 0 | Some x ↦ words_of_resource x ]) is in
-      omega (arith, e, small r (all_at is_small_resource w.resources b (Some r) world.sizes (lives_at w b r is)))
+        let e : words_in w b ≡ words_of_resource r = ap (λ (o : Option Resource). elim o [ None ↦ 0 | Some x ↦ words_of_resource x ]) is in
+        omega (arith, e, small r (all_at is_small_resource w.resources b (Some r) world.sizes (lives_at w b r is)))
 
 -- the parts of a good copy
 record IsGoodCopy (w : World) (d doff s soff bytes : ℕ) : Type 0 where
@@ -48,7 +50,7 @@ record IsGoodCopy (w : World) (d doff s soff bytes : ℕ) : Type 0 where
 ends_inside : (words offset bytes : ℕ) → is_inside words offset bytes ≡ true → offset + bytes ≤ 4 * words
 ends_inside words offset bytes h =
     leb-true (offset + bytes) (4 * words)
-      (and_both (is_whole bytes) (nat_le (offset + bytes) (4 * words)) (and_both (is_whole offset) (is_whole bytes && nat_le (offset + bytes) (4 * words)) h).1).1
+    (and_both (is_whole bytes) (nat_le (offset + bytes) (4 * words)) (and_both (is_whole offset) (is_whole bytes && nat_le (offset + bytes) (4 * words)) h).1).1
 
 good_copy : (w : World) (d doff s soff bytes : ℕ) → is_copy w d doff s soff bytes ≡ true → IsGoodCopy w d doff s soff bytes
 good_copy w d doff s soff bytes good =
@@ -57,7 +59,7 @@ good_copy w d doff s soff bytes good =
     let to : Bool = is_inside (words_in w d) doff bytes in
     let some : Bool = not (bytes == 0) in
     let a : (is_some (resource_of w d) ≡ true) × ((is_some (resource_of w s) && (some && (to && (from && apart)))) ≡ true) =
-      and_both (is_some (resource_of w d)) (is_some (resource_of w s) && (some && (to && (from && apart)))) good in
+    and_both (is_some (resource_of w d)) (is_some (resource_of w s) && (some && (to && (from && apart)))) good in
     let b : (is_some (resource_of w s) ≡ true) × ((some && (to && (from && apart))) ≡ true) = and_both (is_some (resource_of w s)) (some && (to && (from && apart))) a.1 in
     let c : (some ≡ true) × ((to && (from && apart)) ≡ true) = and_both some (to && (from && apart)) b.1 in
     let e : (to ≡ true) × ((from && apart) ≡ true) = and_both to (from && apart) c.1 in
@@ -74,8 +76,8 @@ small_record w (Copy d doff s soff bytes) world good =
     let to : words_in w d.0 ≤ 262144 = few_words w d.0 world in
     let from : words_in w s.0 ≤ 262144 = few_words w s.0 world in
     and_of (nat_lt (doff / 4) (2 ^ 32)) (nat_lt (soff / 4) (2 ^ 32) && nat_lt (bytes / 4) (2 ^ 32)) (lt-ltb (doff / 4) (2 ^ 32) (omega (arith, is.to_end, to)))
-      (and_of (nat_lt (soff / 4) (2 ^ 32)) (nat_lt (bytes / 4) (2 ^ 32)) (lt-ltb (soff / 4) (2 ^ 32) (omega (arith, is.from_end, from)))
-        (lt-ltb (bytes / 4) (2 ^ 32) (omega (arith, is.to_end, to))))
+    (and_of (nat_lt (soff / 4) (2 ^ 32)) (nat_lt (bytes / 4) (2 ^ 32)) (lt-ltb (soff / 4) (2 ^ 32) (omega (arith, is.from_end, from)))
+    (lt-ltb (bytes / 4) (2 ^ 32) (omega (arith, is.to_end, to))))
 
 small_commands : (w : World) (cs : List Command) → IsWorld w → list_all (is_good_command w) cs ≡ true → list_all (λ c. is_small_record c.what) cs ≡ true
 small_commands w [] world good = refl
@@ -99,7 +101,7 @@ in_plan w b world lives = by_resource (resource_of w b) refl lives
     by_resource : (o : Option Resource) → resource_of w b ≡ o → is_some o ≡ true → nat_lt b (length (plan_buffers w.resources)) ≡ true
     by_resource None is h = absurd (cc)
     by_resource (Some r) is h =
-      lt-ltb b (length (plan_buffers w.resources))
+        lt-ltb b (length (plan_buffers w.resources))
         (omega (arith, planned_length w.resources world.live, slice_get_within w.resources b (Some r) (lives_at w b r is)))
 
 record_fits : (w : World) (r : Record) → IsWorld w → is_good_record w r ≡ true → command_fits (plan_of_world w) (lower_record r) ≡ true
@@ -140,5 +142,5 @@ batch_fits w q n last o world within good =
     let sets : Bool = pairs_fit (plan_of_world w) ((q, n) ∷ []) in
     let commands : Bool = list_all (command_fits (plan_of_world w)) (lowered_commands o) in
     and_of (nat_lt q (length w.queues)) (waits && (sets && commands)) (lt-ltb q (length w.queues) within)
-      (and_of waits (sets && commands) (waits_fit w q last o within)
-        (and_of sets commands (and_of (nat_lt q (length w.queues + 1)) true (timeline_fits w q (omega arith)) refl) (operation_fits w o world good)))
+    (and_of waits (sets && commands) (waits_fit w q last o within)
+    (and_of sets commands (and_of (nat_lt q (length w.queues + 1)) true (timeline_fits w q (omega arith)) refl) (operation_fits w o world good)))

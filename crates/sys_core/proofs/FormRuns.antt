@@ -58,7 +58,7 @@ reset_call calls n false v r rs = refl
 
 signal_call : (calls : List Call) (n : ℕ) (busy : Bool) (v : ℕ) (r : Round) (rs : List Round) →
     desk_after_call (world_with calls) (desk_at n (Executed busy v r rs)) 0 (call.Signal (record { 0 = 0 }) (record { 0 = 0 }) r.value)
-      ≡ desk_at (n + 1) (Signalled (signals busy) v r rs)
+    ≡ desk_at (n + 1) (Signalled (signals busy) v r rs)
 signal_call calls n true v r rs = refl
 signal_call calls n false v r rs = refl
 

@@ -97,7 +97,7 @@ pub form_is_quiet : (text : List ℕ) (w : World) (h : List Event) → world_of 
 form_is_quiet text w h form run =
     let of : IsOfRounds w = world_has_rounds text w form in
     subst (λ x. AreHostAccessesQuiet x h) of.world
-      (rounds_are_quiet of.rounds h of.rising (subst (λ x. IsRunButWords x h) (sym of.world) run))
+    (rounds_are_quiet of.rounds h of.rising (subst (λ x. IsRunButWords x h) (sym of.world) run))
 
 -- in a run of a world of the form all is finished, or the thread is ready, or the queue has an operation to complete
 pub form_goes_on : (text : List ℕ) (w : World) (h : List Event) → world_of text ≡ Some w → IsRunButWords w h →
@@ -107,8 +107,8 @@ pub form_goes_on : (text : List ℕ) (w : World) (h : List Event) → world_of t
 form_goes_on text w h form run =
     let of : IsOfRounds w = world_has_rounds text w form in
     subst (λ x. GoesOn x (state_after x h).desk) of.world
-      (at_goes_on (flat_map calls_of of.rounds) (state_after (world_of_rounds of.rounds) h).desk
-        (run_is_at of.rounds h of.rising (subst (λ x. IsRunButWords x h) (sym of.world) run)))
+    (at_goes_on (flat_map calls_of of.rounds) (state_after (world_of_rounds of.rounds) h).desk
+    (run_is_at of.rounds h of.rising (subst (λ x. IsRunButWords x h) (sym of.world) run)))
 
 rounds_are_good : (rounds : List Round) (h : List Event) (t : ThreadId) (c : Call) (r : Reply) → AreRising 0 rounds → IsRunButWords (world_of_rounds rounds) h →
     May SameButWords (world_of_rounds rounds) (state_after (world_of_rounds rounds) h) (event.Call t c r) →
@@ -122,7 +122,7 @@ pub form_is_good : (text : List ℕ) (w : World) (h : List Event) (t : ThreadId)
 form_is_good text w h t c r form run may =
     let of : IsOfRounds w = world_has_rounds text w form in
     subst (λ x. IsRunButWords x h → May SameButWords x (state_after x h) (event.Call t c r) → refusal x (state_after x h).desk c ≡ None) of.world
-      (λ runs comes. rounds_are_good of.rounds h t c r of.rising runs comes) run may
+    (λ runs comes. rounds_are_good of.rounds h t c r of.rising runs comes) run may
 
 -- an event inside a play could come, behind the events before it
 pub record CouldCome (Same : Reply → Reply → Type 0) (w : World) (s : State) (before : List Event) (e : Event) : Type 0 where

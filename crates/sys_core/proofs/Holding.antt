@@ -73,15 +73,15 @@ held_event w h e v u q x y held none journal submitted last signals more =
     let all : operations w (h ++ e ∷ []) q ≡ os ++ by = operations_append w (first_state w) q h e in
     let same : counter (h ++ e ∷ []) q ≡ counter h q = counter_append q h e ∙ omega (arith, none) in
     let front : take y.submitted (operations w (h ++ e ∷ []) q) ≡ take x.submitted os =
-      ap (λ k. take k (operations w (h ++ e ∷ []) q)) submitted ∙ ap (take x.submitted) all ∙ take-append-le x.submitted os by held.within in
+    ap (λ k. take k (operations w (h ++ e ∷ []) q)) submitted ∙ ap (take x.submitted) all ∙ take-append-le x.submitted os by held.within in
     record {
       submitted_is = submitted ∙ held.submitted_is ∙ ap (λ j. next_number q j - 1) (sym journal);
       within = omega (arith, ap length all, length-append os by, held.within, submitted);
       rest = more ∙ ap (λ xs. xs ++ by) held.rest ∙ sym (drop-append-le x.submitted os by held.within) ∙ ap (drop x.submitted) (sym all)
-        ∙ ap (λ k. drop k (operations w (h ++ e ∷ []) q)) (sym submitted);
+          ∙ ap (λ k. drop k (operations w (h ++ e ∷ []) q)) (sym submitted);
       last_is = last ∙ held.last_is ∙ ap (last_signal 1 0) (sym front);
       pending = signals ∙ held.pending ∙ ap (λ k. signals_of (k + 1) (drop k (take x.submitted os))) (sym same)
-        ∙ ap (λ xs. signals_of (counter (h ++ e ∷ []) q + 1) (drop (counter (h ++ e ∷ []) q) xs)) (sym front);
+          ∙ ap (λ xs. signals_of (counter (h ++ e ∷ []) q + 1) (drop (counter (h ++ e ∷ []) q) xs)) (sym front);
     }
 
 -- after the submission of a queue's next operation
@@ -102,12 +102,12 @@ held_submit w h v u q x y o held done head next submitted last signals less =
       within = omega (arith, submitted);
       rest = less ∙ ap (drop 1) held.rest ∙ drop-drop 1 n os ∙ ap (λ k. drop k os) (sym submitted);
       last_is = last ∙ ap (λ k. last_with (n + 1) k o) held.last_is ∙ ap (λ k. last_with k (last_signal 1 0 (take n os)) o) (omega (arith, long))
-        ∙ sym (last_signal_append 1 0 (take n os) o) ∙ ap (last_signal 1 0) (sym front);
+          ∙ sym (last_signal_append 1 0 (take n os) o) ∙ ap (last_signal 1 0) (sym front);
       pending = signals ∙ ap (λ xs. xs ++ signal_of (n + 1) o) held.pending
-        ∙ ap (λ k. signals_of (c + 1) (drop c (take n os)) ++ signal_of k o) (omega (arith, long, length-drop c (take n os)))
-        ∙ sym (signals_of_append (c + 1) (drop c (take n os)) o)
-        ∙ ap (signals_of (c + 1)) (sym (drop-append-le c (take n os) (o ∷ []) (omega (arith, long))))
-        ∙ ap (λ xs. signals_of (c + 1) (drop c xs)) (sym front);
+          ∙ ap (λ k. signals_of (c + 1) (drop c (take n os)) ++ signal_of k o) (omega (arith, long, length-drop c (take n os)))
+          ∙ sym (signals_of_append (c + 1) (drop c (take n os)) o)
+          ∙ ap (signals_of (c + 1)) (sym (drop-append-le c (take n os) (o ∷ []) (omega (arith, long))))
+          ∙ ap (λ xs. signals_of (c + 1) (drop c xs)) (sym front);
     }
 
 without_first_is : (n : ℕ) (o : Operation) (os : List Operation) → without_first o (signals_of n (o ∷ os)) ≡ signals_of (n + 1) os
@@ -125,7 +125,7 @@ held_complete w h e v u q x y o held one none less at journal submitted last mor
     let all : operations w (h ++ e ∷ []) q ≡ os = operations_append w (first_state w) q h e ∙ ap (λ xs. os ++ xs) none ∙ append-nil os in
     let same : counter (h ++ e ∷ []) q ≡ c + 1 = counter_append q h e ∙ omega (arith, one) in
     let front : take y.submitted (operations w (h ++ e ∷ []) q) ≡ take x.submitted os =
-      ap (λ k. take k (operations w (h ++ e ∷ []) q)) submitted ∙ ap (take x.submitted) all in
+    ap (λ k. take k (operations w (h ++ e ∷ []) q)) submitted ∙ ap (take x.submitted) all in
     let first : slice_get (take x.submitted os) c ≡ Some o = get_of_take x.submitted os c less ∙ at in
     record {
       submitted_is = submitted ∙ held.submitted_is ∙ ap (λ j. next_number q j - 1) (sym journal);
@@ -133,8 +133,8 @@ held_complete w h e v u q x y o held one none less at journal submitted last mor
       rest = more ∙ held.rest ∙ ap (drop x.submitted) (sym all) ∙ ap (λ k. drop k (operations w (h ++ e ∷ []) q)) (sym submitted);
       last_is = last ∙ held.last_is ∙ ap (last_signal 1 0) (sym front);
       pending = signals ∙ ap (without_first o) held.pending
-        ∙ ap (λ xs. without_first o (signals_of (c + 1) xs)) (drop_here c (take x.submitted os) o first)
-        ∙ without_first_is (c + 1) o (drop (c + 1) (take x.submitted os))
-        ∙ ap (λ k. signals_of (k + 1) (drop k (take x.submitted os))) (sym same)
-        ∙ ap (λ xs. signals_of (counter (h ++ e ∷ []) q + 1) (drop (counter (h ++ e ∷ []) q) xs)) (sym front);
+          ∙ ap (λ xs. without_first o (signals_of (c + 1) xs)) (drop_here c (take x.submitted os) o first)
+          ∙ without_first_is (c + 1) o (drop (c + 1) (take x.submitted os))
+          ∙ ap (λ k. signals_of (k + 1) (drop k (take x.submitted os))) (sym same)
+          ∙ ap (λ xs. signals_of (counter (h ++ e ∷ []) q + 1) (drop (counter (h ++ e ∷ []) q) xs)) (sym front);
     }

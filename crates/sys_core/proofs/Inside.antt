@@ -67,7 +67,7 @@ access_is test w v b offset bytes has home h =
 write_is : (w : World) (v : VkState) (b offset n : ℕ) → HasBuffers w v → write_refusal w b offset n ≡ None → IsAccess w v b offset (4 * n)
 write_is w v b offset n has good =
     let both : (is_upload w b ≡ true) × (is_inside (words_in w b) offset (4 * n) ≡ true) =
-      and_both (is_upload w b) (is_inside (words_in w b) offset (4 * n)) (not_refused (is_upload w b && is_inside (words_in w b) offset (4 * n)) good) in
+    and_both (is_upload w b) (is_inside (words_in w b) offset (4 * n)) (not_refused (is_upload w b && is_inside (words_in w b) offset (4 * n)) good) in
     access_is is_upload_home w v b offset (4 * n) has both.0 both.1
 
 pub write_inside : (w : World) (v : VkState) (b offset n : ℕ) → HasBuffers w v → write_refusal w b offset n ≡ None → IsInside v b (offset / 4) n
@@ -82,8 +82,8 @@ write_small w v b offset n has good = (write_is w v b offset n has good).first
 read_is : (w : World) (v : VkState) (b offset bytes : ℕ) → HasBuffers w v → read_refusal w b offset bytes ≡ None → IsAccess w v b offset bytes
 read_is w v b offset bytes has good =
     let both : (is_readback w b ≡ true) × ((not (bytes == 0) && is_inside (words_in w b) offset bytes) ≡ true) =
-      and_both (is_readback w b) (not (bytes == 0) && is_inside (words_in w b) offset bytes)
-        (not_refused (is_readback w b && (not (bytes == 0) && is_inside (words_in w b) offset bytes)) good) in
+    and_both (is_readback w b) (not (bytes == 0) && is_inside (words_in w b) offset bytes)
+    (not_refused (is_readback w b && (not (bytes == 0) && is_inside (words_in w b) offset bytes)) good) in
     access_is is_readback_home w v b offset bytes has both.0 (and_both (not (bytes == 0)) (is_inside (words_in w b) offset bytes) both.1).1
 
 pub read_inside : (w : World) (v : VkState) (b offset bytes : ℕ) → HasBuffers w v → read_refusal w b offset bytes ≡ None → IsInside v b (offset / 4) (bytes / 4)

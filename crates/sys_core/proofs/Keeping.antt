@@ -40,7 +40,7 @@ place_is w h p v t s is at =
 met_is : (w : World) (h : List Event) (fences : List (List ℕ)) (a : Armed) → AreFences w h fences → is_behind w h (Some a) ≡ true → is_met_by fences a ≡ is_armed_met w h a
 met_is w h fences a are behind =
     let within : a.fence.0 < length w.fences =
-      ltb-true a.fence.0 (length w.fences) (and_both (nat_lt a.fence.0 (length w.fences)) (nat_lt a.since (length (applied_updates w h a.fence.0))) behind).0 in
+    ltb-true a.fence.0 (length w.fences) (and_both (nat_lt a.fence.0 (length w.fences)) (nat_lt a.since (length (applied_updates w h a.fence.0))) behind).0 in
     ap (λ us. is_met us a.since a.value) (get_or_from_slice_get fences a.fence.0 (applied_updates w h a.fence.0) [] (are.each a.fence.0 within))
 
 ready_same : (w : World) (h : List Event) (script : List Call) (fences : List (List ℕ)) (s : Seat) → AreFences w h fences → is_behind w h s.waits ≡ true →
@@ -48,7 +48,7 @@ ready_same : (w : World) (h : List Event) (script : List Call) (fences : List (L
 ready_same w h script fences s are behind = by_wait s.made s.waits behind
   where
     by_wait : (made : ℕ) (o : Option Armed) → is_behind w h o ≡ true →
-      ready_by script fences (record { made = made; waits = o }) ≡ is_ready_place script (place_from w h (record { made = made; waits = o }))
+        ready_by script fences (record { made = made; waits = o }) ≡ is_ready_place script (place_from w h (record { made = made; waits = o }))
     by_wait made None behind = refl
     by_wait made (Some a) behind = met_is w h fences a are behind
 
@@ -64,11 +64,11 @@ pub keeps_same : {D : Type 0} (state : D → VkState) (plan_of : D → Option De
     Keeps state plan_of w h p d → StaysParts p r → state e ≡ state d → plan_of e ≡ plan_of d → Keeps state plan_of w h r e
 keeps_same state plan_of w h p r d e keeps stays device plan = record {
   consistent =
-    subst (λ v. IsConsistent w h r.lists r.seats (map updates_in r.fences) (map queued r.held) v) (sym device)
-    (subst (λ x. IsConsistent w h r.lists r.seats (map updates_in r.fences) x (state d)) (sym stays.held)
-    (subst (λ x. IsConsistent w h r.lists r.seats (map updates_in x) (map queued p.held) (state d)) (sym stays.fences)
-    (subst (λ x. IsConsistent w h r.lists x (map updates_in p.fences) (map queued p.held) (state d)) (sym stays.seats)
-    (subst (λ x. IsConsistent w h x p.seats (map updates_in p.fences) (map queued p.held) (state d)) (sym stays.lists) keeps.consistent))));
+      subst (λ v. IsConsistent w h r.lists r.seats (map updates_in r.fences) (map queued r.held) v) (sym device)
+      (subst (λ x. IsConsistent w h r.lists r.seats (map updates_in r.fences) x (state d)) (sym stays.held)
+      (subst (λ x. IsConsistent w h r.lists r.seats (map updates_in x) (map queued p.held) (state d)) (sym stays.fences)
+      (subst (λ x. IsConsistent w h r.lists x (map updates_in p.fences) (map queued p.held) (state d)) (sym stays.seats)
+      (subst (λ x. IsConsistent w h x p.seats (map updates_in p.fences) (map queued p.held) (state d)) (sym stays.lists) keeps.consistent))));
   plan = plan ∙ keeps.plan;
 }
 
@@ -82,17 +82,17 @@ keeps_call state plan_of w h p r x d e t c s keeps at waits next serves device p
     let place : place_of (state_after w h).desk t.0 ≡ place_from w h s = place_is w h p (state d) t.0 s keeps.consistent at in
     let k : List Event = h ++ event.Call t c (reply_by w p.lists (state d) c) ∷ [] in
     let is : IsConsistent w k (lists_by w p.lists c) (changed_at (seat_after (map updates_in p.fences) c) t.0 p.seats) (map updates_in p.fences) (held_by w p.lists c (map queued p.held)) (device_by w p.lists (state d) c) =
-      consistent_call w h p.lists p.seats (map updates_in p.fences) (map queued p.held) (state d) t c keeps.consistent
-        (ap (λ (y : Place). y.waits) place ∙ ap (option_map (waiting_from w h)) waits)
-        (ap (λ (y : Place). slice_get (script_of w t.0) y.made) place ∙ next) in
+    consistent_call w h p.lists p.seats (map updates_in p.fences) (map queued p.held) (state d) t c keeps.consistent
+    (ap (λ (y : Place). y.waits) place ∙ ap (option_map (waiting_from w h)) waits)
+    (ap (λ (y : Place). slice_get (script_of w t.0) y.made) place ∙ next) in
     record {
       consistent =
-        subst (λ v. IsConsistent w k x.lists x.seats (map updates_in x.fences) (map queued x.held) v) (sym device)
-        (subst (λ y. IsConsistent w k x.lists x.seats (map updates_in x.fences) y (device_by w p.lists (state d) c)) (sym (ap (map queued) held ∙ serves.held))
-        (subst (λ y. IsConsistent w k x.lists x.seats (map updates_in y) (held_by w p.lists c (map queued p.held)) (device_by w p.lists (state d) c)) (sym (fences ∙ serves.fences))
-        (subst (λ y. IsConsistent w k x.lists y (map updates_in p.fences) (held_by w p.lists c (map queued p.held)) (device_by w p.lists (state d) c))
+          subst (λ v. IsConsistent w k x.lists x.seats (map updates_in x.fences) (map queued x.held) v) (sym device)
+          (subst (λ y. IsConsistent w k x.lists x.seats (map updates_in x.fences) y (device_by w p.lists (state d) c)) (sym (ap (map queued) held ∙ serves.held))
+          (subst (λ y. IsConsistent w k x.lists x.seats (map updates_in y) (held_by w p.lists c (map queued p.held)) (device_by w p.lists (state d) c)) (sym (fences ∙ serves.fences))
+          (subst (λ y. IsConsistent w k x.lists y (map updates_in p.fences) (held_by w p.lists c (map queued p.held)) (device_by w p.lists (state d) c))
           (sym (seats ∙ ap (changed_at (seat_after (map updates_in p.fences) c) t.0) serves.seats))
-        (subst (λ y. IsConsistent w k y (changed_at (seat_after (map updates_in p.fences) c) t.0 p.seats) (map updates_in p.fences) (held_by w p.lists c (map queued p.held)) (device_by w p.lists (state d) c))
+          (subst (λ y. IsConsistent w k y (changed_at (seat_after (map updates_in p.fences) c) t.0 p.seats) (map updates_in p.fences) (held_by w p.lists c (map queued p.held)) (device_by w p.lists (state d) c))
           (sym (lists ∙ serves.lists)) is))));
       plan = plan ∙ keeps.plan;
     }
@@ -107,14 +107,14 @@ keeps_awake state plan_of w h p x d t s a keeps at waits ready lists fences held
     let k : List Event = h ++ event.Awake t ∷ [] in
     let waiting : (place_of (state_after w h).desk t.0).waits ≡ Some (waiting_from w h a) = ap (λ (y : Place). y.waits) place ∙ ap (option_map (waiting_from w h)) waits in
     let may : is_marked (place_of (state_after w h).desk t.0).waits ≡ true =
-      ap is_marked waiting ∙ sym (ap (λ o. elim o [ None ↦ nat_lt (place_of (state_after w h).desk t.0).made (length (script_of w t.0)) | Some y ↦ y.marked ]) waiting) ∙ ready in
+    ap is_marked waiting ∙ sym (ap (λ o. elim o [ None ↦ nat_lt (place_of (state_after w h).desk t.0).made (length (script_of w t.0)) | Some y ↦ y.marked ]) waiting) ∙ ready in
     let is : IsConsistent w k p.lists (changed_at woken_seat t.0 p.seats) (map updates_in p.fences) (map queued p.held) (state d) =
-      consistent_awake w h p.lists p.seats (map updates_in p.fences) (map queued p.held) (state d) t keeps.consistent may in
+    consistent_awake w h p.lists p.seats (map updates_in p.fences) (map queued p.held) (state d) t keeps.consistent may in
     record {
       consistent =
-        subst (λ y. IsConsistent w k x.lists x.seats (map updates_in x.fences) (map queued y) (state d)) (sym held)
-        (subst (λ y. IsConsistent w k x.lists x.seats (map updates_in y) (map queued p.held) (state d)) (sym fences)
-        (subst (λ y. IsConsistent w k x.lists y (map updates_in p.fences) (map queued p.held) (state d)) (sym seats)
-        (subst (λ y. IsConsistent w k y (changed_at woken_seat t.0 p.seats) (map updates_in p.fences) (map queued p.held) (state d)) (sym lists) is)));
+          subst (λ y. IsConsistent w k x.lists x.seats (map updates_in x.fences) (map queued y) (state d)) (sym held)
+          (subst (λ y. IsConsistent w k x.lists x.seats (map updates_in y) (map queued p.held) (state d)) (sym fences)
+          (subst (λ y. IsConsistent w k x.lists y (map updates_in p.fences) (map queued p.held) (state d)) (sym seats)
+          (subst (λ y. IsConsistent w k y (changed_at woken_seat t.0 p.seats) (map updates_in p.fences) (map queued p.held) (state d)) (sym lists) is)));
       plan = keeps.plan;
     }

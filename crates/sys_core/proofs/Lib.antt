@@ -27,3 +27,8 @@ pub mod Rounds
 pub mod RoundsRise
 pub mod Forms
 pub mod DeviceStep
+pub mod Beginning
+pub mod FirstStep
+pub mod Stepping
+pub mod Values
+pub mod Ending

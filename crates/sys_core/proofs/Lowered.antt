@@ -29,7 +29,7 @@ operations_first : (w : World) (s : State) (q k : ℕ) (h more : List Event) (o 
 operations_first w s q k [] more o is = absurd (cc)
 operations_first w s q k (e ∷ h) more o is =
     append_first (called_by w s.desk q e) (operations_from w (after w s e) q h) (operations_from w (after w s e) q (h ++ more)) k o
-      (λ j at. operations_first w (after w s e) q j h more o at) is
+    (λ j at. operations_first w (after w s e) q j h more o at) is
 
 -- what a batch is, and the operation whose batch it is
 pub record IsBatch (w : World) (h : List Event) (b : Batch) (o : Operation) : Type 0 where
@@ -44,13 +44,15 @@ lowered_member w h least earlier (c ∷ bs) (suc k) b are is = lowered_member w 
 lowered_member w h least earlier (c ∷ bs) zero b are is =
     let same : c ≡ b = grind arith in
     let low : IsLowered w (take are.0 h) earlier c = are.3 in
-    subst (λ x. (o : Operation) × IsBatch w h x o) same
-      (low.operation, record {
+    subst (λ x. (o : Operation) × IsBatch w h x o) same (
+      low.operation,
+      record {
         called = ap (λ xs. slice_get (operations w xs c.queue) (c.number - 1)) (sym (take-append-drop are.0 h))
-          ∙ operations_first w (first_state w) c.queue (c.number - 1) (take are.0 h) (drop are.0 h) low.operation low.called;
+            ∙ operations_first w (first_state w) c.queue (c.number - 1) (take are.0 h) (drop are.0 h) low.operation low.called;
         sets = ap (λ (x : Batch). x.sets) low.batch;
         commands = ap (λ (x : Batch). x.commands) low.batch;
-      })
+      },
+    )
 
 abbrev IsIn : ℕ → List Batch → Batch → Type 0
 IsIn q bs b = (j : ℕ) × (slice_get bs j ≡ Some b) × (b.queue ≡ q)
@@ -69,8 +71,9 @@ of_queue_member q [] k b is = absurd (cc)
 of_queue_member q (c ∷ bs) k b is =
     let goes : (j : ℕ) → slice_get (of_queue q bs) j ≡ Some b → IsIn q bs b = λ j at. of_queue_member q bs j b at in
     elim (eqb_tells c.queue q) [
-      inl same ↦ at_head q c bs k b goes same.1 (ap (λ t. slice_get (cond t (c ∷ of_queue q bs) (of_queue q bs)) k) (sym same.0) ∙ is)
-    | inr other ↦ behind q c bs b (goes k (ap (λ t. slice_get (cond t (c ∷ of_queue q bs) (of_queue q bs)) k) (sym other.0) ∙ is)) ]
+      | inl same ↦ at_head q c bs k b goes same.1 (ap (λ t. slice_get (cond t (c ∷ of_queue q bs) (of_queue q bs)) k) (sym same.0) ∙ is)
+      | inr other ↦ behind q c bs b (goes k (ap (λ t. slice_get (cond t (c ∷ of_queue q bs) (of_queue q bs)) k) (sym other.0) ∙ is))
+    ]
 
 and_both : (a b : Bool) → (a && b) ≡ true → (a ≡ true) × (b ≡ true)
 and_both true b h = (refl, h)

@@ -36,8 +36,9 @@ pushes_none : (p q n : ℕ) (o : Operation) (others : Bool) → n ≤ q → (nat
 pushes_none p q n o others past named =
     let less : p < n = ltb-true p n (and_left (nat_lt p n) others named) in
     elim (eqb_tells p q) [
-      inl same ↦ absurd (omega (arith, same.1))
-    | inr other ↦ ap (λ t. if t then o ∷ [] else []) other.0 ]
+      | inl same ↦ absurd (omega (arith, same.1))
+      | inr other ↦ ap (λ t. if t then o ∷ [] else []) other.0
+    ]
 
 -- a call that names objects of the world gives a queue that is none no operation
 operation_none : (w : World) (d : Desk) (q : ℕ) (c : Call) → length w.queues ≤ q → is_named w c ≡ true → operation_of d q c ≡ []
@@ -61,8 +62,8 @@ called_none w s q (event.Queue p) world past may = refl
 pub operations_none : (w : World) (q : ℕ) → IsWorld w → length w.queues ≤ q → (h : List Event) → IsRunButWords w h → operations w h q ≡ []
 operations_none w q world past =
     run_induction (λ h. operations w h q ≡ []) w refl
-      (λ h e run is may. operations_append w (first_state w) q h e ∙ ap (λ os. os ++ called_by w (state_after w h).desk q e) is
-        ∙ called_none w (state_after w h) q e world past may)
+    (λ h e run is may. operations_append w (first_state w) q h e ∙ ap (λ os. os ++ called_by w (state_after w h).desk q e) is
+    ∙ called_none w (state_after w h) q e world past may)
 
 no_lane_there : (lanes : List Lane) → length lanes ≤ 0 → batches_undone (get_or lanes 0 no_lane).batches ≡ []
 no_lane_there [] none = refl
@@ -82,7 +83,7 @@ no_queue_idle w h v world run none lanes =
 pub idle_ahead : (w : World) (h : List Event) (v : VkState) → IsIdle w h v → v.words ≡ (state_after w h).memory → IsAhead w h v
 idle_ahead w h v idle same = record {
   ahead = ap (λ cs. memory_ahead (drop (submitted_of v 0) (operations w h 0)) (run_commands cs v.words)) idle.undone
-    ∙ ap (λ os. memory_ahead os v.words) idle.held ∙ same ∙ ap (λ os. memory_ahead os (state_after w h).memory) (sym idle.called);
+      ∙ ap (λ os. memory_ahead os v.words) idle.held ∙ same ∙ ap (λ os. memory_ahead os (state_after w h).memory) (sym idle.called);
 }
 
 -- in a world without queues, an event by which words and memory change alike
@@ -91,14 +92,15 @@ pub no_queue_event : (w : World) (h : List Event) (e : Event) (v : VkState) (wor
 no_queue_event w h e v words world run none lanes same =
     let u : VkState = record v { words = words } in
     idle_ahead w (h ++ e ∷ []) u (no_queue_idle w (h ++ e ∷ []) u world run none lanes)
-      (same ∙ ap (λ (s : State). s.memory) (sym (state_after_append w h e)))
+    (same ∙ ap (λ (s : State). s.memory) (sym (state_after_append w h e)))
 
 -- where no called operation is incomplete, nothing is left to do, with a queue or without
 pub is_idle : (w : World) (h : List Event) (v : VkState) → IsWorld w → IsRunButWords w h → IsDevice w h v → IsQuiet (state_after w h) → IsIdle w h v
 is_idle w h v world run device quiet =
     elim (cases_lt 0 (length w.queues)) [
-      inl some ↦ quiet_is_idle w h v run device some quiet
-    | inr none ↦ no_queue_idle w h v world run none (omega (arith, device.objects.lanes, none)) ]
+      | inl some ↦ quiet_is_idle w h v run device some quiet
+      | inr none ↦ no_queue_idle w h v world run none (omega (arith, device.objects.lanes, none))
+    ]
 
 -- where no called operation is incomplete, the device's words are the machine's memory
 pub quiet_words : (w : World) (h : List Event) (v : VkState) → IsWorld w → IsRunButWords w h → IsDevice w h v → IsAhead w h v → IsQuiet (state_after w h) →

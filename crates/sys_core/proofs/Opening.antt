@@ -42,9 +42,9 @@ fences_open : (w : World) → AreFences w [] (map (λ v. v ∷ []) w.fences)
 fences_open w = record {
   count = length-map w.fences (λ v. v ∷ []);
   each = λ f within.
-    let at : slice_get w.fences f ≡ Some (get_or w.fences f 0) = slice_get-get_or w.fences f 0 within in
-    slice_get-map (λ v. v ∷ []) w.fences f ∙ ap (option_map (λ v. v ∷ [])) at
-    ∙ ap (λ (o : Option ℕ). Some (elim o [ None ↦ 0 | Some v ↦ v ] ∷ [])) (sym at);
+      let at : slice_get w.fences f ≡ Some (get_or w.fences f 0) = slice_get-get_or w.fences f 0 within in
+      slice_get-map (λ v. v ∷ []) w.fences f ∙ ap (option_map (λ v. v ∷ [])) at
+      ∙ ap (λ (o : Option ℕ). Some (elim o [ None ↦ 0 | Some v ↦ v ] ∷ [])) (sym at);
 }
 
 zero_at : (n q : ℕ) → let zero_number : ℕ = 0 in (get_or (replicate n zero_number) q zero_number ≡ zero_number)
@@ -57,7 +57,7 @@ device_open w world =
     let plan : DevicePlan = plan_of_world w in
     let lanes : 0 < length (first_device plan).lanes = omega (arith, length-replicate (length w.queues) no_lane, world.one_queue) in
     let lane : lane_of (opened w) 0 ≡ lane_after_submit (startup w) no_lane =
-      ap (λ k. get_or (changed_at (lane_after_submit (startup w)) 0 (replicate k no_lane)) 0 no_lane) world.one_queue in
+    ap (λ k. get_or (changed_at (lane_after_submit (startup w)) 0 (replicate k no_lane)) 0 no_lane) world.one_queue in
     record {
       valid = submit_valid (first_device plan) (startup w) lanes refl (first_valid plan);
       objects = submit_matches plan (first_device plan) (startup w) (first_matches plan);
@@ -69,7 +69,7 @@ device_open w world =
       };
       named = ap (λ n. nat_lt 0 n && true) world.one_queue;
       finished = λ q within. subst (λ k. 0 ≡ (first_number k + finished_of (opened w) k) - 1) (let zeroth : 0 ≡ q = omega (arith, within, world.one_queue) in zeroth)
-        (let one : length (lane_of (opened w) 0).batches ≡ 1 = ap (λ (l : Lane). length l.batches) lane in omega (arith, one));
+          (let one : length (lane_of (opened w) 0).batches ≡ 1 = ap (λ (l : Lane). length l.batches) lane in omega (arith, one));
       opening = λ some. let one : length (lane_of (opened w) 0).batches ≡ 1 = ap (λ (l : Lane). length l.batches) lane in absurd (omega (arith, some, one));
     }
 
@@ -82,10 +82,10 @@ held_open : (w : World) → IsWorld w → AreHeld w [] (opened w) (map (λ _. no
 held_open w world = record {
   count = length-map w.queues (λ _. no_queue);
   each = λ q x at.
-    let zeroth : 0 ≡ q = omega (arith, slice_get_within (map (λ _. no_queue) w.queues) q x at, length-map w.queues (λ _. no_queue), world.one_queue) in
-    subst (λ y. IsHeld w [] (opened w) q y) (const_at w.queues q x at)
+      let zeroth : 0 ≡ q = omega (arith, slice_get_within (map (λ _. no_queue) w.queues) q x at, length-map w.queues (λ _. no_queue), world.one_queue) in
+      subst (λ y. IsHeld w [] (opened w) q y) (const_at w.queues q x at)
       (subst (λ k. IsHeld w [] (opened w) k no_queue) zeroth
-        (record { submitted_is = refl; within = omega arith; rest = refl; last_is = refl; pending = refl }));
+      (record { submitted_is = refl; within = omega arith; rest = refl; last_is = refl; pending = refl }));
 }
 
 -- before any call

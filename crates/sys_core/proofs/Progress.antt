@@ -44,12 +44,13 @@ where_some test make n (suc k) t least less passes =
     let rest : List Step = steps_where test make (n + 1) k in
     let parts : length (first ++ rest) ≡ length first + length rest = length-append first rest in
     elim (eqb_tells n t) [
-      inl same ↦
-        let one : length first ≡ 1 = ap (λ b. length (if b then make n ∷ [] else [])) (ap test same.1 ∙ passes) in
-        omega (arith, parts, one)
-    | inr other ↦
-        let later : n ≤ t → n + 1 ≤ t = λ le. elim (cases_lt n t) [ inl lt ↦ omega (arith, lt) | inr past ↦ absurd (other.1 (omega (arith, le, past))) ] in
-        omega (arith, parts, where_some test make (n + 1) k t (later least) (omega (arith, less)) passes) ]
+      | inl same ↦
+          let one : length first ≡ 1 = ap (λ b. length (if b then make n ∷ [] else [])) (ap test same.1 ∙ passes) in
+          omega (arith, parts, one)
+      | inr other ↦
+          let later : n ≤ t → n + 1 ≤ t = λ le. elim (cases_lt n t) [ inl lt ↦ omega (arith, lt) | inr past ↦ absurd (other.1 (omega (arith, le, past))) ] in
+          omega (arith, parts, where_some test make (n + 1) k t (later least) (omega (arith, less)) passes)
+    ]
 
 -- the steps of the threads
 abbrev threads_of : World → List Event → List Step
@@ -73,7 +74,7 @@ parts_of w h v free =
 pub thread_goes : (w : World) (h : List Event) (v : VkState) (free t : ℕ) → t < length w.scripts → is_ready_thread w h t ≡ true → 0 < length (enabled_of w h v free)
 thread_goes w h v free t within ready =
     let some : 0 < length (threads_of w h) =
-      where_some (is_ready_thread w h) (λ t. step.Thread t) 0 (length w.scripts) t (omega arith) (omega (arith, within)) ready in
+    where_some (is_ready_thread w h) (λ t. step.Thread t) 0 (length w.scripts) t (omega arith) (omega (arith, within)) ready in
     omega (arith, some, parts_of w h v free)
 
 -- a queue with an operation that is not submitted has an enabled step of its worker
@@ -81,15 +82,15 @@ pub worker_goes : (w : World) (h : List Event) (v : VkState) (free q : ℕ) → 
     0 < length (enabled_of w h v free)
 worker_goes w h v free q within less =
     let some : 0 < length (workers_of w h v) =
-      where_some (is_ready_worker w h v) (λ q. step.Worker q) 0 (length w.queues) q (omega arith) (omega (arith, within))
-        (lt-ltb (submitted_of v q) (length (operations w h q)) less) in
+    where_some (is_ready_worker w h v) (λ q. step.Worker q) 0 (length w.queues) q (omega arith) (omega (arith, within))
+    (lt-ltb (submitted_of v q) (length (operations w h q)) less) in
     omega (arith, some, parts_of w h v free)
 
 -- a device with a step has an enabled one
 pub device_goes : (w : World) (h : List Event) (v : VkState) (free : ℕ) → 0 < length (enabled_steps v) → 0 < length (enabled_of w h v free)
 device_goes w h v free less =
     let some : 0 < length (devices_of v free) =
-      where_some always (λ k. step.Device k) 0 (steps_offered v free) 0 (omega arith) (omega (arith, less)) refl in
+    where_some always (λ k. step.Device k) 0 (steps_offered v free) 0 (omega arith) (omega (arith, less)) refl in
     omega (arith, some, parts_of w h v free)
 
 -- the first unfinished batch of the one queue
@@ -105,7 +106,7 @@ head_is v r valid front =
     let long : length rs ≡ length j - lane.finished = sym (length-map rs batch_of) ∙ ap length lane.are_last ∙ length-drop lane.finished j in
     let finished : lane.finished ≡ finished_of v 0 = omega (arith, long, lane.ended) in
     let here : slice_get j lane.finished ≡ Some r.batch =
-      sym (slice_get_drop lane.finished j) ∙ ap (λ xs. slice_get xs 0) (sym lane.are_last) ∙ slice_get-map batch_of rs 0 ∙ ap (option_map batch_of) front in
+    sym (slice_get_drop lane.finished j) ∙ ap (λ xs. slice_get xs 0) (sym lane.are_last) ∙ slice_get-map batch_of rs 0 ∙ ap (option_map batch_of) front in
     record {
       at = ap (slice_get j) (sym finished) ∙ here;
       number = number_at 0 j lane.finished r.batch (valid.numbered 0) here ∙ omega (arith, finished);
@@ -121,26 +122,27 @@ head_reached w h v r world device head =
     let n : ℕ = finished_of v 0 in
     let within : 0 < length w.queues = omega (arith, world.one_queue) in
     elim (cases_lt 0 n) [
-      inl some ↦
-        let n_is : n ≡ suc (n - 1) = omega (arith, some) in
-        let behind : slice_get (of_queue 0 rest) (n - 1) ≡ Some r.batch =
+      | inl some ↦
+          let n_is : n ≡ suc (n - 1) = omega (arith, some) in
+          let behind : slice_get (of_queue 0 rest) (n - 1) ≡ Some r.batch =
           ap (λ k. slice_get (startup w ∷ of_queue 0 rest) k) (sym n_is) ∙ ap (λ bs. slice_get bs n) (sym queue) ∙ head.at in
-        let member : (j : ℕ) × (slice_get rest j ≡ Some r.batch) × (r.batch.queue ≡ 0) = of_queue_member 0 rest (n - 1) r.batch behind in
-        let p : Batch → Bool = λ b. nat_lt b.queue (length w.queues) in
-        let named : (p (startup w) ≡ true) × (list_all p rest ≡ true) =
+          let member : (j : ℕ) × (slice_get rest j ≡ Some r.batch) × (r.batch.queue ≡ 0) = of_queue_member 0 rest (n - 1) r.batch behind in
+          let p : Batch → Bool = λ b. nat_lt b.queue (length w.queues) in
+          let named : (p (startup w) ≡ true) × (list_all p rest ≡ true) =
           and_both (p (startup w)) (list_all p rest) (ap (list_all p) (sym begins) ∙ device.named) in
-        let waiting : IsWaiting w r.batch =
+          let waiting : IsWaiting w r.batch =
           waiting_member w h 0 (startup w ∷ []) rest member.0 r.batch world.one_queue device.stands.lowered_rest (and_of (p (startup w)) true named.0 refl) named.1 member.1 member.2 in
-        let counter_is : counter_of v 0 ≡ counter h 0 = (device.stands.queues 0 within).counter_is in
-        let finished : counter h 0 ≡ (0 + n) - 1 = device.finished 0 within in
-        ap (reached ts) waiting.waits
-        ∙ waits_reached ts (length w.queues) waiting.last waiting.operation (device.opening some)
-            (omega (arith, waiting.before, head.number, counter_is, finished))
-    | inr none ↦
-        let first : Some (startup w) ≡ Some r.batch =
+          let counter_is : counter_of v 0 ≡ counter h 0 = (device.stands.queues 0 within).counter_is in
+          let finished : counter h 0 ≡ (0 + n) - 1 = device.finished 0 within in
+          ap (reached ts) waiting.waits
+          ∙ waits_reached ts (length w.queues) waiting.last waiting.operation (device.opening some)
+          (omega (arith, waiting.before, head.number, counter_is, finished))
+      | inr none ↦
+          let first : Some (startup w) ≡ Some r.batch =
           ap (λ bs. slice_get bs 0) (sym queue) ∙ ap (slice_get (of_queue 0 v.journal)) (let e : 0 ≡ n = omega (arith, none) in e) ∙ head.at in
-        let same : startup w ≡ r.batch = grind arith in
-        ap (λ (b : Batch). reached ts b.waits) (sym same) ]
+          let same : startup w ≡ r.batch = grind arith in
+          ap (λ (b : Batch). reached ts b.waits) (sym same)
+    ]
 
 -- a device to which all called operations are submitted, of which one is incomplete, has a step
 pub submitted_go : (w : World) (h : List Event) (v : VkState) → IsWorld w → IsDevice w h v → counter h 0 < length (operations w h 0) →
@@ -156,22 +158,23 @@ submitted_go w h v world device less all =
     let some : 0 < length rs = omega (arith, count, long, finished, less, all) in
     let first : (r : Running) × (slice_get rs 0 ≡ Some r) = item_at rs 0 some in
     lane_goes v 0 (lane_of v 0) first.0 (slice_get-get_or v.lanes 0 no_lane lanes) first.1
-      (all_at is_marked rs 0 first.0 (device.valid.lanes 0).marked first.1)
-      (λ _. head_reached w h v first.0 world device (head_is v first.0 device.valid first.1))
+    (all_at is_marked rs 0 first.0 (device.valid.lanes 0).marked first.1)
+    (λ _. head_reached w h v first.0 world device (head_is v first.0 device.valid first.1))
 
 first_goes : (w : World) (h : List Event) (v : VkState) (free : ℕ) → IsWorld w → IsRunButWords w h → IsDevice w h v → 0 < length (called_of (state_after w h).desk 0) →
     0 < length (enabled_of w h v free)
 first_goes w h v free world run device some =
     let within : 0 < length w.queues = omega (arith, world.one_queue) in
     let less : counter h 0 < length (operations w h 0) =
-      omega (arith, some, ap length (called_now w h run within), length-drop (counter h 0) (operations w h 0)) in
+    omega (arith, some, ap length (called_now w h run within), length-drop (counter h 0) (operations w h 0)) in
     elim (cases_lt (submitted_of v 0) (length (operations w h 0))) [
-      inl more ↦ worker_goes w h v free 0 within more
-    | inr all ↦ device_goes w h v free (submitted_go w h v world device less all) ]
+      | inl more ↦ worker_goes w h v free 0 within more
+      | inr all ↦ device_goes w h v free (submitted_go w h v world device less all)
+    ]
 
 -- while an operation is called and incomplete, a step is enabled
 pub queue_goes : (w : World) (h : List Event) (v : VkState) (free q : ℕ) → IsWorld w → IsRunButWords w h → IsDevice w h v → q < length w.queues →
     0 < length (called_of (state_after w h).desk q) → 0 < length (enabled_of w h v free)
 queue_goes w h v free q world run device within some =
     at_first (λ p. 0 < length (called_of (state_after w h).desk p) → 0 < length (enabled_of w h v free)) q (length w.queues) within
-      (omega (arith, world.one_queue)) (first_goes w h v free world run device) some
+    (omega (arith, world.one_queue)) (first_goes w h v free world run device) some

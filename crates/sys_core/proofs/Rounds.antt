@@ -93,7 +93,7 @@ moment_keeps calls n m memory (event.Queue q) left within rising may = queue_kee
 pub event_keeps : (calls : List Call) (s : State) (e : Event) → IsAt calls s.desk → May SameButWords (world_with calls) s e → IsAt calls (after (world_with calls) s e).desk
 event_keeps calls s e at may =
     let now : May SameButWords (world_with calls) (record { desk = desk_at at.made at.moment; memory = s.memory }) e =
-      subst (λ d. May SameButWords (world_with calls) (record { desk = d; memory = s.memory }) e) at.desk may in
+    subst (λ d. May SameButWords (world_with calls) (record { desk = d; memory = s.memory }) e) at.desk may in
     subst (λ d. IsAt calls (desk_after (world_with calls) d e)) (sym at.desk) (moment_keeps calls at.made at.moment s.memory e at.left at.within at.rising now)
 
 -- in a run of rounds with rising values each state is a moment
@@ -103,9 +103,9 @@ run_is_at rounds h rising run =
     let w : World = world_of_rounds rounds in
     let calls : List Call = flat_map calls_of rounds in
     run_induction (λ es. IsAt calls (state_after w es).desk) w
-      (record { made = 0; moment = Between true 0 rounds; desk = refl; left = refl; within = omega arith; rising = rising })
-      (λ es e before at may. subst (λ s. IsAt calls s.desk) (sym (state_after_append w es e)) (event_keeps calls (state_after w es) e at may))
-      h run
+    (record { made = 0; moment = Between true 0 rounds; desk = refl; left = refl; within = omega arith; rising = rising })
+    (λ es e before at may. subst (λ s. IsAt calls s.desk) (sym (state_after_append w es e)) (event_keeps calls (state_after w es) e at may))
+    h run
 
 good_is_access : (r : Option Hresult) (c : Call) → is_good_access r c ≡ true → is_access c ≡ true
 good_is_access None c good = good
@@ -148,5 +148,5 @@ rounds_are_quiet rounds h rising run =
     let w : World = world_of_rounds rounds in
     let calls : List Call = flat_map calls_of rounds in
     run_induction (λ es. AreHostAccessesQuiet w es) w tt
-      (λ es e before are may. quiet_append w es e are (access_at calls (state_after w es) e (run_is_at rounds es rising before) may))
-      h run
+    (λ es e before are may. quiet_append w es e are (access_at calls (state_after w es) e (run_is_at rounds es rising before) may))
+    h run

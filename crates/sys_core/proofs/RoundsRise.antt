@@ -28,7 +28,7 @@ written_four : (line : List (List ℕ)) (ws : List ℕ) → written_of line ≡ 
 unfolding written_of
 written_four (key ∷ buffer ∷ offset ∷ a ∷ b ∷ c ∷ d ∷ []) ws is =
     where_four _ (four_of (data_word_of a) (data_word_of b) (data_word_of c) (data_word_of d)) ws
-      (λ xs e. four_words (data_word_of a) (data_word_of b) (data_word_of c) (data_word_of d) xs e) is
+    (λ xs e. four_words (data_word_of a) (data_word_of b) (data_word_of c) (data_word_of d) xs e) is
 written_four _ ws is = absurd (cc)
 
 risen_when : (t : Bool) (r x : Round) → (if t then Some r else None) ≡ Some x → (t ≡ true) × (r ≡ x)
@@ -62,7 +62,7 @@ pub round_above : (above : ℕ) (lines : List (List ℕ)) (p : Round × List (Li
 unfolding round_of
 round_above above (write ∷ reset ∷ copy ∷ close ∷ execute ∷ signal ∷ wait ∷ read ∷ rest) p is =
     rest_above above (is_recorded reset copy close execute read) rest (round_of_three above write signal wait) p
-      (λ r e. joined_above above (written_of (words_of write)) (signal_of (words_of signal)) (wait_of (words_of wait)) r (λ xs f. written_four (words_of write) xs f) e) is
+    (λ r e. joined_above above (written_of (words_of write)) (signal_of (words_of signal)) (wait_of (words_of wait)) r (λ xs f. written_four (words_of write) xs f) e) is
 round_above above _ p is = absurd (cc)
 
 more_rise : (above : ℕ) (r : Round) (found : Option (List Round)) (rs : List Round) → IsRoundAbove above r →

@@ -65,7 +65,7 @@ place_same w h e none s = waits_same s.waits
     waits_same : (o : Option Armed) → record { made = s.made; waits = option_map (waiting_from w (h ++ e ∷ [])) o } ≡ (let p : Place = record { made = s.made; waits = option_map (waiting_from w h) o } in p)
     waits_same None = refl
     waits_same (Some a) =
-      ap (λ us. let p : Place = record { made = s.made; waits = Some (record { fence = a.fence.0; value = a.value; marked = is_met us a.since a.value }) } in p)
+        ap (λ us. let p : Place = record { made = s.made; waits = Some (record { fence = a.fence.0; value = a.value; marked = is_met us a.since a.value }) } in p)
         (applied_same w h e a.fence.0 (none a.fence.0))
 
 behind_same : (w : World) (h : List Event) (e : Event) → ((f : ℕ) → update_of (state_after w h).desk f e ≡ []) → (o : Option Armed) →
@@ -194,12 +194,12 @@ seats_call w h t c r seats are last named =
     let e : Event = event.Call t c r in
     record {
       threads = ap (λ (s : State). s.desk.threads) (state_append w h e) ∙ threads_after_call w (state_after w h).desk t.0 c
-        ∙ ap (changed_at (call_place (state_after w h).desk c) t.0) are.threads
-        ∙ sym (map_changed (place_from w h) (call_seat w h c) (call_place (state_after w h).desk c) t.0 seats (call_place_is w h c last named))
-        ∙ sym (map_alike (place_from w (h ++ e ∷ [])) (place_from w h) (changed_at (call_seat w h c) t.0 seats) (place_same w h e (λ f. refl)));
+          ∙ ap (changed_at (call_place (state_after w h).desk c) t.0) are.threads
+          ∙ sym (map_changed (place_from w h) (call_seat w h c) (call_place (state_after w h).desk c) t.0 seats (call_place_is w h c last named))
+          ∙ sym (map_alike (place_from w (h ++ e ∷ [])) (place_from w h) (changed_at (call_seat w h c) t.0 seats) (place_same w h e (λ f. refl)));
       behind = all_alike (λ s. is_behind w h s.waits) (λ s. is_behind w (h ++ e ∷ []) s.waits) (changed_at (call_seat w h c) t.0 seats)
-        (λ s is. behind_same w h e (λ f. refl) s.waits ∙ is)
-        (all_changed (λ s. is_behind w h s.waits) (call_seat w h c) t.0 seats are.behind (λ s is. behind_call w h c s.waits named is));
+          (λ s is. behind_same w h e (λ f. refl) s.waits ∙ is)
+          (all_changed (λ s. is_behind w h s.waits) (call_seat w h c) t.0 seats are.behind (λ s is. behind_call w h c s.waits named is));
     }
 
 -- the places after a waking
@@ -210,12 +210,12 @@ seats_awake w h t seats are =
     let f : Seat → Seat = λ s. record s { waits = None } in
     record {
       threads = ap (λ (s : State). s.desk.threads) (state_append w h e)
-        ∙ ap (changed_at (λ p. record p { waits = None }) t.0) are.threads
-        ∙ sym (map_changed (place_from w h) f (λ p. record p { waits = None }) t.0 seats (λ s. refl))
-        ∙ sym (map_alike (place_from w (h ++ e ∷ [])) (place_from w h) (changed_at f t.0 seats) (place_same w h e (λ f. refl)));
+          ∙ ap (changed_at (λ p. record p { waits = None }) t.0) are.threads
+          ∙ sym (map_changed (place_from w h) f (λ p. record p { waits = None }) t.0 seats (λ s. refl))
+          ∙ sym (map_alike (place_from w (h ++ e ∷ [])) (place_from w h) (changed_at f t.0 seats) (place_same w h e (λ f. refl)));
       behind = all_alike (λ s. is_behind w h s.waits) (λ s. is_behind w (h ++ e ∷ []) s.waits) (changed_at f t.0 seats)
-        (λ s is. behind_same w h e (λ f. refl) s.waits ∙ is)
-        (all_changed (λ s. is_behind w h s.waits) f t.0 seats are.behind (λ s is. refl));
+          (λ s is. behind_same w h e (λ f. refl) s.waits ∙ is)
+          (all_changed (λ s. is_behind w h s.waits) f t.0 seats are.behind (λ s is. refl));
     }
 
 or_false : (b : Bool) → (b || false) ≡ b
@@ -263,20 +263,22 @@ marked_place_is w h k o more s behind = by_wait o more s.made s.waits behind
   where
     same : (f : ℕ) → applied_updates w k f ≡ applied_updates w h f ++ [] → applied_updates w k f ≡ applied_updates w h f
     same f is = is ∙ append-nil (applied_updates w h f)
+
     place : ℕ → Armed → Bool → Place
     place made a b = record { made = made; waits = Some (record { fence = a.fence.0; value = a.value; marked = b }) }
+
     by_wait : (o : Option Operation) → ((f : ℕ) → applied_updates w k f ≡ applied_updates w h f ++ update_of_operation f o) → (made : ℕ) (a : Option Armed) →
-      is_behind w h a ≡ true → place_from w k (record { made = made; waits = a }) ≡ marked_by o (place_from w h (record { made = made; waits = a }))
+        is_behind w h a ≡ true → place_from w k (record { made = made; waits = a }) ≡ marked_by o (place_from w h (record { made = made; waits = a }))
     by_wait None more made None behind = refl
     by_wait (Some (operation.Execute cs)) more made None behind = refl
     by_wait (Some (operation.Signal g v)) more made None behind = refl
     by_wait None more made (Some a) behind = ap (λ us. place made a (is_met us a.since a.value)) (same a.fence.0 (more a.fence.0))
     by_wait (Some (operation.Execute cs)) more made (Some a) behind = ap (λ us. place made a (is_met us a.since a.value)) (same a.fence.0 (more a.fence.0))
     by_wait (Some (operation.Signal g v)) more made (Some a) behind =
-      let both : (nat_lt a.fence.0 (length w.fences) ≡ true) × (nat_lt a.since (length (applied_updates w h a.fence.0)) ≡ true) =
+        let both : (nat_lt a.fence.0 (length w.fences) ≡ true) × (nat_lt a.since (length (applied_updates w h a.fence.0)) ≡ true) =
         and_both (nat_lt a.fence.0 (length w.fences)) (nat_lt a.since (length (applied_updates w h a.fence.0))) behind in
-      ap (λ us. place made a (is_met us a.since a.value)) (more a.fence.0)
-      ∙ ap (place made a) (met_more (applied_updates w h a.fence.0) a.fence.0 g.0 v a.value a.since (ltb-true a.since (length (applied_updates w h a.fence.0)) both.1))
+        ap (λ us. place made a (is_met us a.since a.value)) (more a.fence.0)
+        ∙ ap (place made a) (met_more (applied_updates w h a.fence.0) a.fence.0 g.0 v a.value a.since (ltb-true a.since (length (applied_updates w h a.fence.0)) both.1))
 
 map_alike_on : {A B : Type 0} (p : A → Bool) (f g : A → B) (xs : List A) → list_all p xs ≡ true → ((x : A) → p x ≡ true → f x ≡ g x) → map f xs ≡ map g xs
 map_alike_on p f g [] all same = refl
@@ -293,12 +295,12 @@ still_behind : (w : World) (h k : List Event) (o : Option Operation) → ((f : �
 still_behind w h k o more None is = refl
 still_behind w h k o more (Some a) is =
     let both : (nat_lt a.fence.0 (length w.fences) ≡ true) × (nat_lt a.since (length (applied_updates w h a.fence.0)) ≡ true) =
-      and_both (nat_lt a.fence.0 (length w.fences)) (nat_lt a.since (length (applied_updates w h a.fence.0))) is in
+    and_both (nat_lt a.fence.0 (length w.fences)) (nat_lt a.since (length (applied_updates w h a.fence.0))) is in
     let long : length (applied_updates w k a.fence.0) ≡ length (applied_updates w h a.fence.0) + length (update_of_operation a.fence.0 o) =
-      ap length (more a.fence.0) ∙ length-append (applied_updates w h a.fence.0) (update_of_operation a.fence.0 o) in
+    ap length (more a.fence.0) ∙ length-append (applied_updates w h a.fence.0) (update_of_operation a.fence.0 o) in
     let before : a.since < length (applied_updates w h a.fence.0) = ltb-true a.since (length (applied_updates w h a.fence.0)) both.1 in
     and_of (nat_lt a.fence.0 (length w.fences)) (nat_lt a.since (length (applied_updates w k a.fence.0))) both.0
-      (lt-ltb a.since (length (applied_updates w k a.fence.0)) (omega (arith, before, long)))
+    (lt-ltb a.since (length (applied_updates w k a.fence.0)) (omega (arith, before, long)))
 
 -- the places after a completion
 pub seats_complete : (w : World) (h : List Event) (q : QueueId) (seats : List Seat) → AreSeats w h seats → AreSeats w (h ++ event.Queue q ∷ []) seats
@@ -307,9 +309,9 @@ seats_complete w h q seats are =
     let d : Desk = (state_after w h).desk in
     record {
       threads = ap (λ (s : State). s.desk.threads) (state_append w h e) ∙ threads_complete d (head_of d q.0) q.0 ∙ ap (map (marked_by (head_of d q.0))) are.threads
-        ∙ map_map (marked_by (head_of d q.0)) (place_from w h) seats
-        ∙ sym (map_alike_on (λ s. is_behind w h s.waits) (place_from w (h ++ e ∷ [])) (λ s. marked_by (head_of d q.0) (place_from w h s)) seats are.behind
-            (marked_place_is w h (h ++ e ∷ []) (head_of d q.0) (applied_complete w h q)));
+          ∙ map_map (marked_by (head_of d q.0)) (place_from w h) seats
+          ∙ sym (map_alike_on (λ s. is_behind w h s.waits) (place_from w (h ++ e ∷ [])) (λ s. marked_by (head_of d q.0) (place_from w h s)) seats are.behind
+          (marked_place_is w h (h ++ e ∷ []) (head_of d q.0) (applied_complete w h q)));
       behind = all_alike (λ s. is_behind w h s.waits) (λ s. is_behind w (h ++ e ∷ []) s.waits) seats
-        (λ s is. still_behind w h (h ++ e ∷ []) (head_of d q.0) (applied_complete w h q) s.waits is) are.behind;
+          (λ s is. still_behind w h (h ++ e ∷ []) (head_of d q.0) (applied_complete w h q) s.waits is) are.behind;
     }

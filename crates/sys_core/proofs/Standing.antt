@@ -29,20 +29,31 @@ take_all (x ∷ xs) = ap (λ ys. x ∷ ys) (take_all xs)
 -- batches stay lowered when the history goes on
 pub lowered_on : (w : World) (h more : List Event) (least : ℕ) (earlier bs : List Batch) → AreLowered w h least earlier bs → AreLowered w (h ++ more) least earlier bs
 lowered_on w h more least earlier [] are = tt
-lowered_on w h more least earlier (b ∷ bs) are =
-    (are.0, are.1, omega (arith, are.2, length-append h more),
-     subst (λ xs. IsLowered w xs earlier b) (sym (take-append-le are.0 h more are.2)) are.3,
-     lowered_on w h more are.0 (earlier ++ b ∷ []) bs are.4)
+lowered_on w h more least earlier (b ∷ bs) are = (
+  are.0,
+  are.1,
+  omega (arith, are.2, length-append h more),
+  subst (λ xs. IsLowered w xs earlier b) (sym (take-append-le are.0 h more are.2)) are.3,
+  lowered_on w h more are.0 (earlier ++ b ∷ []) bs are.4,
+)
 
 -- a batch that is lowered now goes behind those that are
 pub lowered_more : (w : World) (h : List Event) (least : ℕ) (earlier bs : List Batch) (b : Batch) → least ≤ length h → AreLowered w h least earlier bs →
     IsLowered w h (earlier ++ bs) b → AreLowered w h least earlier (bs ++ b ∷ [])
-lowered_more w h least earlier [] b le are is =
-    (length h, le, omega arith,
-     subst (λ xs. IsLowered w xs earlier b) (sym (take_all h)) (subst (λ ys. IsLowered w h ys b) (append-nil earlier) is), tt)
-lowered_more w h least earlier (c ∷ bs) b le are is =
-    (are.0, are.1, are.2, are.3,
-     lowered_more w h are.0 (earlier ++ c ∷ []) bs b are.2 are.4 (subst (λ ys. IsLowered w h ys b) (sym (append_assoc earlier (c ∷ []) bs)) is))
+lowered_more w h least earlier [] b le are is = (
+  length h,
+  le,
+  omega arith,
+  subst (λ xs. IsLowered w xs earlier b) (sym (take_all h)) (subst (λ ys. IsLowered w h ys b) (append-nil earlier) is),
+  tt,
+)
+lowered_more w h least earlier (c ∷ bs) b le are is = (
+  are.0,
+  are.1,
+  are.2,
+  are.3,
+  lowered_more w h are.0 (earlier ++ c ∷ []) bs b are.2 are.4 (subst (λ ys. IsLowered w h ys b) (sym (append_assoc earlier (c ∷ []) bs)) is),
+)
 
 cond_cons : (at : Bool) (c : Batch) (xs ys : List Batch) → cond at (c ∷ (xs ++ ys)) (xs ++ ys) ≡ cond at (c ∷ xs) xs ++ ys
 cond_cons true c xs ys = refl
@@ -95,15 +106,15 @@ pub next_is : (w : World) (v : VkState) (rest : List Batch) (q : ℕ) → v.jour
     next_number q v.journal ≡ submitted_of v q + 1
 next_is w v rest zero begins numbered =
     let next : next_number 0 v.journal ≡ 1 + length (of_queue 0 rest) =
-      ap (λ (j : List Batch). number_after 0 (of_queue 0 j)) begins ∙ number_after_is 1 (of_queue 0 rest) numbered in
+    ap (λ (j : List Batch). number_after 0 (of_queue 0 j)) begins ∙ number_after_is 1 (of_queue 0 rest) numbered in
     omega (arith, next)
 next_is w v rest (suc q) begins numbered =
     let other : (0 == suc q) ≡ false = eqb_false 0 (suc q) (λ e. omega (arith, e)) in
     let next : next_number (suc q) v.journal ≡ 1 + length (of_queue (suc q) rest) =
-      ap (λ n. number_after n (of_queue (suc q) v.journal)) (first_number_suc q)
-      ∙ ap (λ (j : List Batch). number_after 1 (of_queue (suc q) j)) begins
-      ∙ ap (λ t. number_after 1 (cond t (startup w ∷ of_queue (suc q) rest) (of_queue (suc q) rest))) other
-      ∙ number_after_is 1 (of_queue (suc q) rest) numbered in
+    ap (λ n. number_after n (of_queue (suc q) v.journal)) (first_number_suc q)
+    ∙ ap (λ (j : List Batch). number_after 1 (of_queue (suc q) j)) begins
+    ∙ ap (λ t. number_after 1 (cond t (startup w ∷ of_queue (suc q) rest) (of_queue (suc q) rest))) other
+    ∙ number_after_is 1 (of_queue (suc q) rest) numbered in
     omega (arith, next)
 
 operations_more : (w : World) (h : List Event) (e : Event) (q : ℕ) → length (operations w h q) ≤ length (operations w (h ++ e ∷ []) q)
@@ -138,24 +149,25 @@ stands_at_submit : (w : World) (h : List Event) (rest : List Batch) (b : Batch) 
     (u : VkState) → u.timelines ≡ v.timelines → StandsAt w h (rest ++ b ∷ []) u q
 stands_at_submit w h rest b v q at here u timelines =
     elim (eqb_tells b.queue q) [
-      inl same ↦
-        let is : of_queue q (rest ++ b ∷ []) ≡ of_queue q rest ++ b ∷ [] = of_queue_append q rest b ∙ ap (λ t. of_queue q rest ++ cond t (b ∷ []) []) same.0 in
-        let now : (b.number ≡ 1 + length (of_queue q rest)) × (length (of_queue q rest) < length (operations w h q)) = here same.1 in
-        let long : length (of_queue q (rest ++ b ∷ [])) ≡ length (of_queue q rest) + 1 = ap length is ∙ length-append (of_queue q rest) (b ∷ []) in
-        record {
-          numbered = ap (are_numbered 1) is ∙ numbered_more 1 (of_queue q rest) b at.numbered now.0;
-          of_called = omega (arith, long, now.1);
-          counter_is = ap (λ ts. slice_index_or ts q 0) timelines ∙ at.counter_is;
-          done = omega (arith, long, at.done);
-        }
-    | inr other ↦
-        let is : of_queue q (rest ++ b ∷ []) ≡ of_queue q rest = of_queue_append q rest b ∙ ap (λ t. of_queue q rest ++ cond t (b ∷ []) []) other.0 ∙ append-nil (of_queue q rest) in
-        record {
-          numbered = ap (are_numbered 1) is ∙ at.numbered;
-          of_called = omega (arith, ap length is, at.of_called);
-          counter_is = ap (λ ts. slice_index_or ts q 0) timelines ∙ at.counter_is;
-          done = omega (arith, ap length is, at.done);
-        } ]
+      | inl same ↦
+          let is : of_queue q (rest ++ b ∷ []) ≡ of_queue q rest ++ b ∷ [] = of_queue_append q rest b ∙ ap (λ t. of_queue q rest ++ cond t (b ∷ []) []) same.0 in
+          let now : (b.number ≡ 1 + length (of_queue q rest)) × (length (of_queue q rest) < length (operations w h q)) = here same.1 in
+          let long : length (of_queue q (rest ++ b ∷ [])) ≡ length (of_queue q rest) + 1 = ap length is ∙ length-append (of_queue q rest) (b ∷ []) in
+          record {
+            numbered = ap (are_numbered 1) is ∙ numbered_more 1 (of_queue q rest) b at.numbered now.0;
+            of_called = omega (arith, long, now.1);
+            counter_is = ap (λ ts. slice_index_or ts q 0) timelines ∙ at.counter_is;
+            done = omega (arith, long, at.done);
+          }
+      | inr other ↦
+          let is : of_queue q (rest ++ b ∷ []) ≡ of_queue q rest = of_queue_append q rest b ∙ ap (λ t. of_queue q rest ++ cond t (b ∷ []) []) other.0 ∙ append-nil (of_queue q rest) in
+          record {
+            numbered = ap (are_numbered 1) is ∙ at.numbered;
+            of_called = omega (arith, ap length is, at.of_called);
+            counter_is = ap (λ ts. slice_index_or ts q 0) timelines ∙ at.counter_is;
+            done = omega (arith, ap length is, at.done);
+          }
+    ]
 
 -- the submission of the next operation of a queue
 pub stands_submit : (w : World) (h : List Event) (v : VkState) (q : ℕ) (o : Operation) → Stands w h v → q < length w.queues →
@@ -172,9 +184,9 @@ stands_submit w h v q o s within is =
         batch = ap (λ j. lowered w h j q (submitted_of v q + 1) o) s.begins;
       });
       queues = λ p at. stands_at_submit w h s.rest b v p (s.queues p at)
-        (λ same. subst (λ x. (submitted_of v q + 1 ≡ 1 + length (of_queue x s.rest)) × (length (of_queue x s.rest) < length (operations w h x))) same
+          (λ same. subst (λ x. (submitted_of v q + 1 ≡ 1 + length (of_queue x s.rest)) × (length (of_queue x s.rest) < length (operations w h x))) same
           (omega (arith, count), omega (arith, count, slice_get_within (operations w h q) (submitted_of v q) o is)))
-        (after_submit v b) refl;
+          (after_submit v b) refl;
     }
 
 -- a completion, where the timeline of the queue rises by one and the others stay

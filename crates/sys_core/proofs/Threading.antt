@@ -57,16 +57,17 @@ module _ {D : Type 0} (state : D → VkState) (plan_of : D → Option DevicePlan
   -- a thread whose step is enabled is one of the world
   pub thread_there : (t : ℕ) → is_ready_thread w h t ≡ true → (t < length p.seats) × (t < length w.scripts)
   thread_there t ready = elim (slice_get_cases w.scripts t).1 [
-      inl found ↦ (omega (arith, found.1, seats_length), found.1)
+    | inl found ↦ (omega (arith, found.1, seats_length), found.1)
     | inr past ↦ absurd (no_thread (slice_get w.scripts t) (slice_get (state_after w h).desk.threads t) past.1
-        (slice_get_past (state_after w h).desk.threads t (omega (arith, past.0, threads_length))) ready) ]
+        (slice_get_past (state_after w h).desk.threads t (omega (arith, past.0, threads_length))) ready)
+  ]
 
   -- a thread that does not wait has a call left
   pub call_left : (t : ℕ) (s : Seat) → slice_get p.seats t ≡ Some s → s.waits ≡ None → is_ready_thread w h t ≡ true → s.made < length (script_of w t)
   call_left t s at waits ready =
       let seat : ℕ → Option Armed → Seat = λ m o. record { made = m; waits = o } in
       ltb-true s.made (length (script_of w t))
-        (sym (ap (λ o. ready_by (script_of w t) (map updates_in p.fences) (seat s.made o)) waits) ∙ ready_is state plan_of w h p d t s keeps at ∙ ready)
+      (sym (ap (λ o. ready_by (script_of w t) (map updates_in p.fences) (seat s.made o)) waits) ∙ ready_is state plan_of w h p d t s keeps at ∙ ready)
 
   -- the machine's place of a thread that does not wait
   pub next_is : (t : ℕ) (s : Seat) (c : Call) → slice_get p.seats t ≡ Some s → slice_get (script_of w t) s.made ≡ Some c → next_call w (state_after w h).desk t ≡ Some c
@@ -92,7 +93,7 @@ module _ {D : Type 0} (state : D → VkState) (plan_of : D → Option DevicePlan
   awake_event t s a at waits =
       sym (ap (place_event w (seen_state w h (state d)) t.0) (waits_is t.0 s at ∙ ap (option_map (waiting_from w h)) waits))
 
-  reply_seen : (c : Call) → reply_by w p.lists (state d) c ≡ reply_of w (seen_state w h (state d)) c
+  pub reply_seen : (c : Call) → reply_by w p.lists (state d) c ≡ reply_of w (seen_state w h (state d)) c
   reply_seen c = ap (λ r. reply_or r (good_reply (state d).words c)) (refusal_is w (state_after w h).desk p.lists c keeps.consistent.lists_are)
 
   -- the event of a thread that makes its next call
@@ -101,7 +102,7 @@ module _ {D : Type 0} (state : D → VkState) (plan_of : D → Option DevicePlan
   call_event_is t s c at waits next =
       ap (event.Call t c) (reply_seen c)
       ∙ sym (ap (place_event w (seen_state w h (state d)) t.0) (waits_is t.0 s at ∙ ap (option_map (waiting_from w h)) waits)
-        ∙ ap (call_event w (seen_state w h (state d)) t.0) (next_is t.0 s c at next))
+      ∙ ap (call_event w (seen_state w h (state d)) t.0) (next_is t.0 s c at next))
 
   -- the device after a call
   pub device_seen : (c : Call) (t : ThreadId) (r : Reply) → device_by w p.lists (state d) c ≡ after_event w h (state d) (event.Call t c r)

@@ -98,14 +98,15 @@ first_of_batch q n k [] done = inl (record { steps = refl; rest = refl })
 first_of_batch q n k (c ∷ cs) [] = inl (record { steps = refl; rest = refl })
 first_of_batch q n k (c ∷ cs) (true ∷ done) =
     elim (first_of_batch q n (k + 1) cs done) [
-      inl none ↦ inl (record { steps = none.steps; rest = none.rest })
-    | inr first ↦ inr (record {
+      | inl none ↦ inl (record { steps = none.steps; rest = none.rest })
+      | inr first ↦ inr (record {
         index = suc first.index;
         command = first.command;
         is_command = first.is_command;
         step = first.step ∙ ap (λ i. Some (Ran q n i)) (omega arith);
         rest = first.rest;
-      }) ]
+      })
+    ]
 first_of_batch q n k (c ∷ cs) (false ∷ done) =
     inr (record { index = 0; command = c; is_command = refl; step = ap (λ i. Some (Ran q n i)) (omega arith); rest = refl })
 
@@ -125,23 +126,24 @@ first_in_lane q zero bs = inl refl
 first_in_lane q (suc passed) [] = inl refl
 first_in_lane q (suc passed) (r ∷ bs) =
     elim (first_of_batch q r.batch.number 1 r.batch.commands r.done) [
-      inl none ↦
-        let goes : lane_commands q [] (take (suc passed) (r ∷ bs)) ≡ lane_commands q [] (take passed bs) =
+      | inl none ↦
+          let goes : lane_commands q [] (take (suc passed) (r ∷ bs)) ≡ lane_commands q [] (take passed bs) =
           ap (λ xs. xs ++ lane_commands q (undone r) (take passed bs)) none.steps ∙ ap (λ cs. lane_commands q cs (take passed bs)) none.rest in
-        elim (first_in_lane q passed bs) [
-          inl nothing ↦ inl (goes ∙ nothing)
-        | inr first ↦ inr (record {
-            place = suc first.place;
-            running = first.running;
-            index = first.index;
-            command = first.command;
-            there = first.there;
-            is_command = first.is_command;
-            step = ap (λ xs. slice_get xs 0) goes ∙ first.step;
-            rest = ap (λ cs. cs ++ batches_undone bs) none.rest ∙ first.rest
-              ∙ ap (λ cs. first.command ∷ (cs ++ batches_undone (changed_at (with_done (1 + first.index)) first.place bs))) (sym none.rest);
-          }) ]
-    | inr first ↦ inr (record {
+          elim (first_in_lane q passed bs) [
+            | inl nothing ↦ inl (goes ∙ nothing)
+            | inr first ↦ inr (record {
+              place = suc first.place;
+              running = first.running;
+              index = first.index;
+              command = first.command;
+              there = first.there;
+              is_command = first.is_command;
+              step = ap (λ xs. slice_get xs 0) goes ∙ first.step;
+              rest = ap (λ cs. cs ++ batches_undone bs) none.rest ∙ first.rest
+                  ∙ ap (λ cs. first.command ∷ (cs ++ batches_undone (changed_at (with_done (1 + first.index)) first.place bs))) (sym none.rest);
+            })
+          ]
+      | inr first ↦ inr (record {
         place = 0;
         running = r;
         index = first.index;
@@ -150,8 +152,9 @@ first_in_lane q (suc passed) (r ∷ bs) =
         is_command = first.is_command;
         step = head_append (batch_commands q r.batch.number 1 [] r.batch.commands r.done) (lane_commands q (undone r) (take passed bs)) (Ran q r.batch.number (1 + first.index)) first.step;
         rest = ap (λ cs. cs ++ batches_undone bs) first.rest
-          ∙ ap (λ i. first.command ∷ (unmarked r.batch.commands (slice_set r.done i true) ++ batches_undone bs)) (let e : first.index ≡ 1 + first.index - 1 = omega arith in e);
-      }) ]
+            ∙ ap (λ i. first.command ∷ (unmarked r.batch.commands (slice_set r.done i true) ++ batches_undone bs)) (let e : first.index ≡ 1 + first.index - 1 = omega arith in e);
+      })
+    ]
 
 no_pass : (ts : List ℕ) (p q n k : ℕ) (o : Option Running) (xs : List Stepped) →
     slice_get ((elim o [ None ↦ [] | Some next ↦ if reached ts next.batch.waits then Passed p next.batch.number ∷ [] else [] ] ++ []) ++ xs) 0 ≡ Some (Ran q n k) →
@@ -181,8 +184,9 @@ first_ran ts lane q n k is =
     let ys : List Stepped = bumps 0 (lane ∷ []) in
     let at : slice_get ((xs ++ []) ++ ys) 0 ≡ Some (Ran q n k) = no_pass ts 0 q n k (slice_get lane.batches lane.passed) ((xs ++ []) ++ ys) is in
     elim (first_in_lane 0 lane.passed lane.batches) [
-      inl none ↦ absurd (no_bump 0 q n k lane.passed (slice_get lane.batches 0) (ap (λ zs. slice_get ((zs ++ []) ++ ys) 0) (sym none) ∙ at))
-    | inr first ↦
-        let s : Stepped = Ran 0 first.running.batch.number (1 + first.index) in
-        let e : Some s ≡ Some (Ran q n k) = sym (head_append (xs ++ []) ys s (head_append xs [] s first.step)) ∙ at in
-        (first, cc) ]
+      | inl none ↦ absurd (no_bump 0 q n k lane.passed (slice_get lane.batches 0) (ap (λ zs. slice_get ((zs ++ []) ++ ys) 0) (sym none) ∙ at))
+      | inr first ↦
+          let s : Stepped = Ran 0 first.running.batch.number (1 + first.index) in
+          let e : Some s ≡ Some (Ran q n k) = sym (head_append (xs ++ []) ys s (head_append xs [] s first.step)) ∙ at in
+          (first, cc)
+    ]

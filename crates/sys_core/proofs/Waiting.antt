@@ -41,7 +41,7 @@ waiting_is w h earlier b one zeroth named low =
       last = n;
       before = omega (arith, less, length-take (b.number - 1) (operations w h b.queue));
       waits = ap (λ (x : Batch). x.waits) low.batch ∙ waits_are w h earlier b.queue before low.operation zeroth one named
-        ∙ ap (λ q. waits_by (length w.queues) q n low.operation) zeroth;
+          ∙ ap (λ q. waits_by (length w.queues) q n low.operation) zeroth;
     }
 
 -- each batch of the one queue but the start-up's
@@ -52,12 +52,12 @@ waiting_member w h least earlier [] k b one are front named is zeroth = absurd (
 waiting_member w h least earlier (c ∷ bs) zero b one are front named is zeroth =
     let same : c ≡ b = grind arith in
     subst (IsWaiting w) same
-      (waiting_is w (take are.0 h) earlier c one (ap (λ (x : Batch). x.queue) same ∙ zeroth) front are.3)
+    (waiting_is w (take are.0 h) earlier c one (ap (λ (x : Batch). x.queue) same ∙ zeroth) front are.3)
 waiting_member w h least earlier (c ∷ bs) (suc k) b one are front named is zeroth =
     let p : Batch → Bool = λ x. nat_lt x.queue (length w.queues) in
     let both : (p c ≡ true) × (list_all p bs ≡ true) = and_both (p c) (list_all p bs) named in
     waiting_member w h are.0 (earlier ++ c ∷ []) bs k b one are.4
-      (all_append p earlier (c ∷ []) front (and_of (p c) true both.0 refl)) both.1 is zeroth
+    (all_append p earlier (c ∷ []) front (and_of (p c) true both.0 refl)) both.1 is zeroth
 
 own_reached : (ts : List ℕ) (n : ℕ) → n ≤ slice_index_or ts 0 0 → reached ts (own_wait 0 n) ≡ true
 own_reached ts n less = by_test (n == 0)

@@ -76,11 +76,12 @@ called_past d q past = ap (λ (o : Option (List Operation)). elim o [ None ↦ [
 pub quiet_when : (w : World) (h : List Event) → IsWorld w → IsRunButWords w h → length (operations w h 0) ≤ counter h 0 → IsQuiet (state_after w h)
 quiet_when w h world run all = record {
   none_called = λ q. elim (cases_lt q (length w.queues)) [
-      inl within ↦
+    | inl within ↦
         let one : length w.queues ≡ 1 = omega (arith, within, world.one_queue) in
         at_first (λ p. called_of (state_after w h).desk p ≡ []) q (length w.queues) within one
-          (called_now w h run (omega (arith, one)) ∙ drop_past (counter h 0) (operations w h 0) all)
-    | inr past ↦ called_past (state_after w h).desk q (omega (arith, (run_has_shape w h).desk.called, past)) ];
+        (called_now w h run (omega (arith, one)) ∙ drop_past (counter h 0) (operations w h 0) all)
+    | inr past ↦ called_past (state_after w h).desk q (omega (arith, (run_has_shape w h).desk.called, past))
+  ];
 }
 
 -- the last event of a play could come
@@ -120,23 +121,25 @@ words_call : (w : World) (h : List Event) (lists : List Listed) (v : VkState) (t
     ((is_good_access (refusal w (state_after w h).desk c) c ≡ true) → IsQuiet (state_after w h)) → IsAhead w h v → IsAhead w (h ++ event.Call t c r ∷ []) (device_by w lists v c)
 words_call w h lists v t c r world run now device are quiet is =
     elim (cases_lt 0 (length w.queues)) [
-      inl some ↦ ahead_call w h lists v t c r run device some are quiet is
-    | inr none ↦
-        let lanes : length v.lanes ≤ 0 = omega (arith, device.objects.lanes, none) in
-        let m : List (List ℕ) = (state_after w h).memory in
-        let no : Option Hresult = refusal w (state_after w h).desk c in
-        let same : v.words ≡ m = idle_words w h v is (no_queue_idle w h v world run none lanes) in
-        no_queue_event w h (event.Call t c r) v (memory_or (refusal w (desk_of lists) c) (written c v.words) v.words) world now none lanes
-          (ap (λ o. memory_or o (written c v.words) v.words) (refusal_is w (state_after w h).desk lists c are) ∙ ap (λ ws. memory_or no (written c ws) ws) same) ]
+      | inl some ↦ ahead_call w h lists v t c r run device some are quiet is
+      | inr none ↦
+          let lanes : length v.lanes ≤ 0 = omega (arith, device.objects.lanes, none) in
+          let m : List (List ℕ) = (state_after w h).memory in
+          let no : Option Hresult = refusal w (state_after w h).desk c in
+          let same : v.words ≡ m = idle_words w h v is (no_queue_idle w h v world run none lanes) in
+          no_queue_event w h (event.Call t c r) v (memory_or (refusal w (desk_of lists) c) (written c v.words) v.words) world now none lanes
+          (ap (λ o. memory_or o (written c v.words) v.words) (refusal_is w (state_after w h).desk lists c are) ∙ ap (λ ws. memory_or no (written c ws) ws) same)
+    ]
 
 words_awake : (w : World) (h : List Event) (v : VkState) (t : ThreadId) → IsWorld w → IsRunButWords w h → IsRunButWords w (h ++ event.Awake t ∷ []) → IsDevice w h v →
     IsAhead w h v → IsAhead w (h ++ event.Awake t ∷ []) v
 words_awake w h v t world run now device is =
     elim (cases_lt 0 (length w.queues)) [
-      inl some ↦ ahead_awake w h v t (device_within w h v device some) is
-    | inr none ↦
-        let lanes : length v.lanes ≤ 0 = omega (arith, device.objects.lanes, none) in
-        no_queue_event w h (event.Awake t) v v.words world now none lanes (idle_words w h v is (no_queue_idle w h v world run none lanes)) ]
+      | inl some ↦ ahead_awake w h v t (device_within w h v device some) is
+      | inr none ↦
+          let lanes : length v.lanes ≤ 0 = omega (arith, device.objects.lanes, none) in
+          no_queue_event w h (event.Awake t) v v.words world now none lanes (idle_words w h v is (no_queue_idle w h v world run none lanes))
+    ]
 
 -- the start
 pub whole_first : (w : World) → IsWorld w → IsWhole w [] (after_submit (vulkan.first_state (plan_of_world w)) (startup w))
@@ -151,10 +154,10 @@ whole_call w h lists v t c world run device are waits next is =
     let r : Reply = reply_by w lists v c in
     let e : Event = event.Call t c r in
     let now : IsRunButWords w (h ++ e ∷ []) =
-      run_append w h e run (waits, next, replies_alike w (state_after w h) lists v c are (same_sizes w h v world device.objects)) in
+    run_append w h e run (waits, next, replies_alike w (state_after w h) lists v c are (same_sizes w h v world device.objects)) in
     record {
       run = λ quiet. plays_append SameReply w (first_state w) h e (is.run (quiet_front w h e quiet))
-        (may_call w h lists v t c world run device are waits next (quiet_last w h e quiet) (is.words (quiet_front w h e quiet)));
+          (may_call w h lists v t c world run device are waits next (quiet_last w h e quiet) (is.words (quiet_front w h e quiet)));
       words = λ quiet. words_call w h lists v t c r world run now device are (quiet_last w h e quiet) (is.words (quiet_front w h e quiet));
     }
 
@@ -175,7 +178,7 @@ pub whole_submit : (w : World) (h : List Event) (v : VkState) (q : ℕ) (b : Bat
 whole_submit w h v q b o world device within next queue number cs is = record {
   run = is.run;
   words = λ quiet.
-    at_first (λ p. slice_get (operations w h p) (submitted_of v p) ≡ Some o → b.queue ≡ p → b.number ≡ submitted_of v p + 1 → IsAhead w h (after_submit v b)) q (length w.queues) within
+      at_first (λ p. slice_get (operations w h p) (submitted_of v p) ≡ Some o → b.queue ≡ p → b.number ≡ submitted_of v p + 1 → IsAhead w h (after_submit v b)) q (length w.queues) within
       (omega (arith, within, world.one_queue))
       (λ next queue number. ahead_submit w h v b o (omega (arith, device.objects.lanes, within)) next queue number cs (is.words quiet)) next queue number;
 }
@@ -196,8 +199,8 @@ step_goes_on w h (Bumped q n) now = by_number (n == 0) now
         × (IsRun w h → IsRun w (h ++ (if t then [] else event.Queue (record { 0 = q }) ∷ [])))
     by_number true now = same_history w h
     by_number false now =
-      let e : Event = event.Queue (record { 0 = q }) in
-      (λ quiet. quiet_front w h e quiet, λ run. plays_append SameReply w (first_state w) h e run (plays_last SameButWords w (first_state w) h e now))
+        let e : Event = event.Queue (record { 0 = q }) in
+        (λ quiet. quiet_front w h e quiet, λ run. plays_append SameReply w (first_state w) h e run (plays_last SameButWords w (first_state w) h e now))
 
 -- the first step of the device
 pub whole_step : (w : World) (h : List Event) (v : VkState) (s : Stepped) → IsWorld w → IsRunButWords w h → IsDevice w h v →

@@ -55,29 +55,31 @@ sum_more : (f g : ℕ → ℕ) (p x n k : ℕ) → ((q : ℕ) → q ≢ p → g 
 sum_more f g p x n zero others here = omega arith
 sum_more f g p x n (suc k) others here =
     elim (cases_eq n p) [
-      inl same ↦
-        let first : g n ≤ f n + x = subst (λ q. g q ≤ f q + x) (sym same) here in
-        let rest : sum_from g (n + 1) k ≤ sum_from f (n + 1) k = sum_same f g (n + 1) k (λ q behind. others q (λ is. omega (arith, behind, same, is))) in
-        omega (arith, first, rest)
-    | inr other ↦
-        let first : g n ≤ f n = others n other in
-        let rest : sum_from g (n + 1) k ≤ sum_from f (n + 1) k + x = sum_more f g p x (n + 1) k others here in
-        omega (arith, first, rest) ]
+      | inl same ↦
+          let first : g n ≤ f n + x = subst (λ q. g q ≤ f q + x) (sym same) here in
+          let rest : sum_from g (n + 1) k ≤ sum_from f (n + 1) k = sum_same f g (n + 1) k (λ q behind. others q (λ is. omega (arith, behind, same, is))) in
+          omega (arith, first, rest)
+      | inr other ↦
+          let first : g n ≤ f n = others n other in
+          let rest : sum_from g (n + 1) k ≤ sum_from f (n + 1) k + x = sum_more f g p x (n + 1) k others here in
+          omega (arith, first, rest)
+    ]
 
 -- a sum of numbers of which one fell
 sum_less : (f g : ℕ → ℕ) (p x n k : ℕ) → ((q : ℕ) → q ≢ p → g q ≤ f q) → g p + x ≤ f p → n ≤ p → p < n + k → sum_from g n k + x ≤ sum_from f n k
 sum_less f g p x n zero others here from within = absurd (omega (arith, from, within))
 sum_less f g p x n (suc k) others here from within =
     elim (cases_eq n p) [
-      inl same ↦
-        let first : g n + x ≤ f n = subst (λ q. g q + x ≤ f q) (sym same) here in
-        let rest : sum_from g (n + 1) k ≤ sum_from f (n + 1) k = sum_same f g (n + 1) k (λ q behind. others q (λ is. omega (arith, behind, same, is))) in
-        omega (arith, first, rest)
-    | inr other ↦
-        let first : g n ≤ f n = others n other in
-        let later : n < p = omega (arith, from, other) in
-        let rest : sum_from g (n + 1) k + x ≤ sum_from f (n + 1) k = sum_less f g p x (n + 1) k others here (omega (arith, later)) (omega (arith, within)) in
-        omega (arith, first, rest) ]
+      | inl same ↦
+          let first : g n + x ≤ f n = subst (λ q. g q + x ≤ f q) (sym same) here in
+          let rest : sum_from g (n + 1) k ≤ sum_from f (n + 1) k = sum_same f g (n + 1) k (λ q behind. others q (λ is. omega (arith, behind, same, is))) in
+          omega (arith, first, rest)
+      | inr other ↦
+          let first : g n ≤ f n = others n other in
+          let later : n < p = omega (arith, from, other) in
+          let rest : sum_from g (n + 1) k + x ≤ sum_from f (n + 1) k = sum_less f g p x (n + 1) k others here (omega (arith, later)) (omega (arith, within)) in
+          omega (arith, first, rest)
+    ]
 
 -- the script of that thread among scripts
 abbrev script_in : List (List Call) → ℕ → List Call
@@ -176,8 +178,9 @@ operation_few w h q (call.Read b offset bytes) = omega arith
 given_elsewhere : (p q : ℕ) (o : Operation) → q ≢ p → operations_work (if (p == q) then o ∷ [] else []) ≡ 0
 given_elsewhere p q o other =
     elim (eqb_tells p q) [
-      inl same ↦ absurd (other (sym same.1))
-    | inr differs ↦ ap (λ (b : Bool). operations_work (if b then o ∷ [] else [])) differs.0 ]
+      | inl same ↦ absurd (other (sym same.1))
+      | inr differs ↦ ap (λ (b : Bool). operations_work (if b then o ∷ [] else [])) differs.0
+    ]
 
 operation_none : (d : Desk) (q : ℕ) (c : Call) → q ≢ queue_of c → operations_work (operation_of d q c) ≡ 0
 operation_none d q (call.Recording l what) other = refl
@@ -200,8 +203,8 @@ queue_event w h e v u q journal =
     let os : List Operation = operations w h q in
     let by : List Operation = called_by w (state_after w h).desk q e in
     let is : queue_work w (h ++ e ∷ []) u q ≡ operations_work (drop (submitted_of v q) (os ++ by)) =
-      ap (λ (j : List Batch). operations_work (drop (next_number q j - 1) (operations w (h ++ e ∷ []) q))) journal
-      ∙ ap (λ xs. operations_work (drop (submitted_of v q) xs)) (operations_append w (first_state w) q h e) in
+    ap (λ (j : List Batch). operations_work (drop (next_number q j - 1) (operations w (h ++ e ∷ []) q))) journal
+    ∙ ap (λ xs. operations_work (drop (submitted_of v q) xs)) (operations_append w (first_state w) q h e) in
     omega (arith, is, operations_more (submitted_of v q) os by)
 
 -- the queues' work after a call
@@ -212,8 +215,8 @@ held_call w h t c r v u journal =
     let e : Event = event.Call t c r in
     let given : (q : ℕ) → operations_work (called_by w d q e) ≤ operations_work (operation_of d q c) = λ q. refused_less (refusal w d c) (operation_of d q c) in
     sum_more (queue_work w h v) (queue_work w (h ++ e ∷ []) u) (queue_of c) (given_by c) 0 (length w.queues)
-      (λ q other. omega (arith, queue_event w h e v u q journal, given q, operation_none d q c other))
-      (omega (arith, queue_event w h e v u (queue_of c) journal, given (queue_of c), operation_few w h (queue_of c) c))
+    (λ q other. omega (arith, queue_event w h e v u q journal, given q, operation_none d q c other))
+    (omega (arith, queue_event w h e v u (queue_of c) journal, given (queue_of c), operation_few w h (queue_of c) c))
 
 -- a thread's work after its next call
 place_called : (d : Desk) (c : Call) (script : List Call) (p : Place) → calls_work (drop p.made script) ≡ call_weight c + calls_work (drop (p.made + 1) script) →
@@ -235,12 +238,12 @@ threads_called w h t c r next =
     let p : Place = place_of d t.0 in
     let script : List Call = script_of w t.0 in
     let threads : (state_after w (h ++ event.Call t c r ∷ [])).desk.threads ≡ changed_at (call_place d c) t.0 d.threads =
-      ap (λ (s : State). s.desk.threads) (state_after_append w h (event.Call t c r)) ∙ threads_after_call w d t.0 c in
+    ap (λ (s : State). s.desk.threads) (state_after_append w h (event.Call t c r)) ∙ threads_after_call w d t.0 c in
     let inside : t.0 < length w.scripts = scripted w.scripts t.0 p.made c next in
     let placed : t.0 < length d.threads = omega (arith, inside, (run_has_shape w h).desk.threads) in
     let paid : calls_work (drop p.made script) ≡ call_weight c + calls_work (drop (p.made + 1) script) = ap calls_work (drop_here p.made script c next) in
     let less : threads_work w.scripts (changed_at (call_place d c) t.0 d.threads) + call_weight c ≤ threads_work w.scripts d.threads + begun_by c =
-      threads_changed (call_place d c) w.scripts d.threads t.0 (call_weight c) (begun_by c) inside placed (place_called d c script p paid) in
+    threads_changed (call_place d c) w.scripts d.threads t.0 (call_weight c) (begun_by c) inside placed (place_called d c script p paid) in
     omega (arith, ap (threads_work w.scripts) threads, less)
 
 -- a call leaves less work
@@ -254,7 +257,7 @@ held_quiet : (w : World) (h : List Event) (e : Event) (v u : VkState) → ((q : 
     held_work w (h ++ e ∷ []) u ≤ held_work w h v
 held_quiet w h e v u none journal =
     sum_same (queue_work w h v) (queue_work w (h ++ e ∷ []) u) 0 (length w.queues)
-      (λ q from. omega (arith, queue_event w h e v u q journal, ap operations_work (none q)))
+    (λ q from. omega (arith, queue_event w h e v u q journal, ap operations_work (none q)))
 
 -- a thread that waits is one of the world
 waiting_within : (places : List Place) (t : ℕ) (x : Waiting) → (place_in places t).waits ≡ Some x → t < length places
@@ -273,11 +276,11 @@ awake_falls w h v t x waits =
     let d : Desk = (state_after w h).desk in
     let p : Place = place_of d t.0 in
     let threads : (state_after w (h ++ event.Awake t ∷ [])).desk.threads ≡ changed_at woken_place t.0 d.threads =
-      ap (λ (s : State). s.desk.threads) (state_after_append w h (event.Awake t)) in
+    ap (λ (s : State). s.desk.threads) (state_after_append w h (event.Awake t)) in
     let placed : t.0 < length d.threads = waiting_within d.threads t.0 x waits in
     let inside : t.0 < length w.scripts = omega (arith, placed, (run_has_shape w h).desk.threads) in
     let less : threads_work w.scripts (changed_at woken_place t.0 d.threads) + 1 ≤ threads_work w.scripts d.threads + 0 =
-      threads_changed woken_place w.scripts d.threads t.0 1 0 inside placed (omega (arith, ap wait_work waits)) in
+    threads_changed woken_place w.scripts d.threads t.0 1 0 inside placed (omega (arith, ap wait_work waits)) in
     omega (arith, ap (threads_work w.scripts) threads, less, held_quiet w h (event.Awake t) v v (λ q. refl) refl)
 
 number_behind : (n : ℕ) (bs : List Batch) (b : Batch) → number_after n (bs ++ b ∷ []) ≡ b.number + 1
@@ -288,19 +291,21 @@ number_behind n (c ∷ bs) b = number_behind (c.number + 1) bs b
 submitted_here : (v : VkState) (b : Batch) (q : ℕ) → b.queue ≡ q → submitted_of (after_submit v b) q ≡ b.number
 submitted_here v b q same =
     elim (eqb_tells b.queue q) [
-      inl at ↦
-        let behind : of_queue q (v.journal ++ b ∷ []) ≡ of_queue q v.journal ++ b ∷ [] = of_queue_append q v.journal b ∙ ap (λ t. of_queue q v.journal ++ cond t (b ∷ []) []) at.0 in
-        ap (λ bs. number_after (first_number q) bs - 1) behind ∙ omega (arith, number_behind (first_number q) (of_queue q v.journal) b)
-    | inr other ↦ absurd (other.1 same) ]
+      | inl at ↦
+          let behind : of_queue q (v.journal ++ b ∷ []) ≡ of_queue q v.journal ++ b ∷ [] = of_queue_append q v.journal b ∙ ap (λ t. of_queue q v.journal ++ cond t (b ∷ []) []) at.0 in
+          ap (λ bs. number_after (first_number q) bs - 1) behind ∙ omega (arith, number_behind (first_number q) (of_queue q v.journal) b)
+      | inr other ↦ absurd (other.1 same)
+    ]
 
 -- how many are, on another queue
 submitted_there : (v : VkState) (b : Batch) (q : ℕ) → q ≢ b.queue → submitted_of (after_submit v b) q ≡ submitted_of v q
 submitted_there v b q differs =
     elim (eqb_tells b.queue q) [
-      inl same ↦ absurd (differs (sym same.1))
-    | inr other ↦
-        ap (λ bs. number_after (first_number q) bs - 1)
-          (of_queue_append q v.journal b ∙ ap (λ t. of_queue q v.journal ++ cond t (b ∷ []) []) other.0 ∙ append-nil (of_queue q v.journal)) ]
+      | inl same ↦ absurd (differs (sym same.1))
+      | inr other ↦
+          ap (λ bs. number_after (first_number q) bs - 1)
+          (of_queue_append q v.journal b ∙ ap (λ t. of_queue q v.journal ++ cond t (b ∷ []) []) other.0 ∙ append-nil (of_queue q v.journal))
+    ]
 
 -- an operation weighs more than the steps of its batch
 operation_pays : (o : Operation) → operation_weight o ≡ 3 + length (lowered_commands o)
@@ -325,9 +330,9 @@ pub submit_falls : (w : World) (h : List Event) (v : VkState) (q : ℕ) (o : Ope
     IsValid v → q < length v.lanes → work w h (after_submit v b) < work w h v
 submit_falls w h v q o b within is queue number commands valid lane =
     let less : held_work w h (after_submit v b) + operation_weight o ≤ held_work w h v =
-      sum_less (queue_work w h v) (queue_work w h (after_submit v b)) q (operation_weight o) 0 (length w.queues)
-        (λ p other. omega (arith, ap (λ n. operations_work (drop n (operations w h p))) (submitted_there v b p (λ same. other (same ∙ queue)))))
-        (omega (arith, queue_submit w h v q o b is queue number)) (omega arith) (omega (arith, within)) in
+    sum_less (queue_work w h v) (queue_work w h (after_submit v b)) q (operation_weight o) 0 (length w.queues)
+    (λ p other. omega (arith, ap (λ n. operations_work (drop n (operations w h p))) (submitted_there v b p (λ same. other (same ∙ queue)))))
+    (omega (arith, queue_submit w h v q o b is queue number)) (omega arith) (omega (arith, within)) in
     let left : steps_left (after_submit v b) ≡ steps_left v + (2 + length b.commands) = submit_left v b valid (omega (arith, queue, lane)) in
     omega (arith, less, left, operation_pays o, ap length commands)
 
@@ -349,7 +354,7 @@ queue_falls : (w : World) (h : List Event) (v u : VkState) (q : QueueId) → u.j
 queue_falls w h v u q journal fewer =
     let d : Desk = (state_after w h).desk in
     let threads : threads_work w.scripts (state_after w (h ++ event.Queue q ∷ [])).desk.threads ≡ threads_work w.scripts d.threads =
-      ap (λ (s : State). threads_work w.scripts s.desk.threads) (state_after_append w h (event.Queue q)) ∙ threads_completed w.scripts (dropped d q.0) (head_of d q.0) in
+    ap (λ (s : State). threads_work w.scripts s.desk.threads) (state_after_append w h (event.Queue q)) ∙ threads_completed w.scripts (dropped d q.0) (head_of d q.0) in
     omega (arith, threads, held_quiet w h (event.Queue q) v u (λ p. refl) journal, fewer)
 
 -- no event where the device has fewer steps left
@@ -357,8 +362,8 @@ silent_falls : (w : World) (h : List Event) (v u : VkState) → u.journal ≡ v.
 silent_falls w h v u journal fewer =
     let same : work w (h ++ []) u ≡ work w h u = ap (λ k. work w k u) (append-nil h) in
     let held : held_work w h u ≤ held_work w h v =
-      sum_same (queue_work w h v) (queue_work w h u) 0 (length w.queues)
-        (λ q from. omega (arith, ap (λ (j : List Batch). operations_work (drop (next_number q j - 1) (operations w h q))) journal)) in
+    sum_same (queue_work w h v) (queue_work w h u) 0 (length w.queues)
+    (λ q from. omega (arith, ap (λ (j : List Batch). operations_work (drop (next_number q j - 1) (operations w h q))) journal)) in
     omega (arith, same, held, fewer)
 
 ended_falls : (w : World) (h : List Event) (v u : VkState) (q : QueueId) (b : Bool) → u.journal ≡ v.journal → steps_left u < steps_left v →

@@ -84,17 +84,19 @@ module _ {D : Type 0} (state : D → VkState) (plan_of : D → Option DevicePlan
   pub next_found : (q : ℕ) (y : Held) → q < length w.queues → is_ready_worker w h (state d) q ≡ true → slice_get p.held q ≡ Some y → (o : Operation) × IsNext w h (state d) q y o
   next_found q y within ready at =
       let held : IsHeld w h (state d) q (queued y) =
-        keeps.consistent.held_are.each q (queued y) (slice_get-map queued p.held q ∙ ap (option_map queued) at) in
+      keeps.consistent.held_are.each q (queued y) (slice_get-map queued p.held q ∙ ap (option_map queued) at) in
       let os : List Operation = operations w h q in
       let some : submitted_of (state d) q < length os = ltb-true (submitted_of (state d) q) (length os) ready in
-      let found : (o : Operation) × (slice_get os (submitted_of (state d) q) ≡ Some o) = item_at os (submitted_of (state d) q) some in
-      (found.0, record {
-        held = held;
-        head = ap (λ xs. slice_get xs 0) held.rest ∙ slice_get_drop y.submitted os ∙ ap (slice_get os) held.submitted_is ∙ found.1;
-        called = found.1;
-        good = all_at (is_good_operation w) os (submitted_of (state d) q) found.0 (operations_are_good w h q) found.1;
-        few = omega (arith, some, held.submitted_is, operations_few w (first_state w) q h);
-      })
+      let found : (o : Operation) × (slice_get os (submitted_of (state d) q) ≡ Some o) = item_at os (submitted_of (state d) q) some in (
+        found.0,
+        record {
+          held = held;
+          head = ap (λ xs. slice_get xs 0) held.rest ∙ slice_get_drop y.submitted os ∙ ap (slice_get os) held.submitted_is ∙ found.1;
+          called = found.1;
+          good = all_at (is_good_operation w) os (submitted_of (state d) q) found.0 (operations_are_good w h q) found.1;
+          few = omega (arith, some, held.submitted_is, operations_few w (first_state w) q h);
+        },
+      )
 
   pub small_next : (o : Operation) → is_good_operation w o ≡ true → is_small_operation o ≡ true
   small_next o good = small_operation w o keeps.consistent.world good
@@ -108,7 +110,7 @@ module _ {D : Type 0} (state : D → VkState) (plan_of : D → Option DevicePlan
       IfSome (plan_of d) (λ plan. fits_plan plan b ≡ true)
   fits_next q y o b within next is =
       subst (λ plan. IfSome plan (λ x. fits_plan x b ≡ true)) (sym keeps.plan)
-        (ap (fits_plan (plan_of_world w)) is ∙ batch_fits w q (y.submitted + 1) y.last_signal o keeps.consistent.world within next.good)
+      (ap (fits_plan (plan_of_world w)) is ∙ batch_fits w q (y.submitted + 1) y.last_signal o keeps.consistent.world within next.good)
 
   -- the batch that was submitted is the lowered one
   pub batch_next : (q : ℕ) (y : Held) (o : Operation) (b : Batch) → q < length w.queues → IsNext w h (state d) q y o → b ≡ batch_by w q (y.submitted + 1) y.last_signal o →
@@ -127,12 +129,12 @@ module _ {D : Type 0} (state : D → VkState) (plan_of : D → Option DevicePlan
   keeps_next q y z o b e within at lent next is after plan submitted =
       let at_queued : slice_get (map queued p.held) q ≡ Some (queued y) = slice_get-map queued p.held q ∙ ap (option_map queued) at in
       let held : map queued (set p.held q z) ≡ changed_at (submitted_one o) q (map queued p.held) =
-        map_write queued (submitted_one o) p.held q y z (slice_get_within p.held q y at) lent submitted in
+      map_write queued (submitted_one o) p.held q y z (slice_get_within p.held q y at) lent submitted in
       record {
         consistent =
-          subst (λ v. IsConsistent w h p.lists p.seats (map updates_in p.fences) (map queued (set p.held q z)) v)
+            subst (λ v. IsConsistent w h p.lists p.seats (map updates_in p.fences) (map queued (set p.held q z)) v)
             (sym (after ∙ ap (after_submit (state d)) (batch_next q y o b within next is)))
-          (subst (λ x. IsConsistent w h p.lists p.seats (map updates_in p.fences) x (after_submit (state d) (lowered w h (state d).journal q (submitted_of (state d) q + 1) o))) (sym held)
+            (subst (λ x. IsConsistent w h p.lists p.seats (map updates_in p.fences) x (after_submit (state d) (lowered w h (state d).journal q (submitted_of (state d) q + 1) o))) (sym held)
             (consistent_submit w h p.lists p.seats (map updates_in p.fences) (map queued p.held) (state d) q (queued y) o keeps.consistent at_queued next.head));
         plan = plan ∙ keeps.plan;
       }

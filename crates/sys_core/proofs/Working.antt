@@ -47,7 +47,7 @@ no_pending : (w : World) (h : List Event) (f : ℕ) (bs : List Batch) (found : L
 no_pending w h f [] found one named = refl
 no_pending w h f (b ∷ bs) found one named =
     let both : (nat_lt b.queue (length w.queues) ≡ true) × (list_all (λ x. nat_lt x.queue (length w.queues)) bs ≡ true) =
-      and_both (nat_lt b.queue (length w.queues)) (list_all (λ x. nat_lt x.queue (length w.queues)) bs) named in
+    and_both (nat_lt b.queue (length w.queues)) (list_all (λ x. nat_lt x.queue (length w.queues)) bs) named in
     let here : b.queue ≡ 0 = omega (arith, ltb-true b.queue (length w.queues) both.0, one) in
     ap (λ k. other_pending w h 0 f (if (not (k == 0) && (nat_lt (counter h b.queue) b.number && signals_fence f (slice_get (operations w h b.queue) (b.number - 1)))) then (b.queue, b.number) ∷ [] else found) bs) here
     ∙ no_pending w h f bs found one both.1
@@ -69,23 +69,24 @@ lowered_is w h v q x o world device held within =
     let before : List Operation = take (submitted_of v q + 1 - 1) (operations w h q) in
     let front : before ≡ take x.submitted (operations w h q) = ap (λ k. take k (operations w h q)) (omega (arith, held.submitted_is)) in
     let waits : waits_of w h v.journal q before o ≡ waits_by (length w.queues) q x.last_signal o =
-      waits_are w h v.journal q before o one.0 one.1 device.named
-      ∙ ap (λ n. waits_by (length w.queues) q n o) (ap (last_signal 1 0) front ∙ sym held.last_is) in
+    waits_are w h v.journal q before o one.0 one.1 device.named
+    ∙ ap (λ n. waits_by (length w.queues) q n o) (ap (last_signal 1 0) front ∙ sym held.last_is) in
     let batch : List (ℕ × ℕ) → ℕ → Batch = λ ws n. record { queue = q; number = n; waits = ws; commands = lowered_commands o; sets = (q, n) ∷ [] } in
     ap (λ ws. batch ws (submitted_of v q + 1)) waits ∙ ap (batch (waits_by (length w.queues) q x.last_signal o)) (ap (λ k. k + 1) (sym held.submitted_is))
 
 lane_after : (b : Batch) (p : ℕ) (v : VkState) → b.queue < length v.lanes → length (lane_of (after_submit v b) p).batches ≡ length (lane_of v p).batches + (if (b.queue == p) then 1 else 0)
 lane_after b p v within =
     elim (eqb_tells b.queue p) [
-      inl same ↦
-        let here : lane_of (after_submit v b) p ≡ lane_after_submit b (lane_of v p) =
+      | inl same ↦
+          let here : lane_of (after_submit v b) p ≡ lane_after_submit b (lane_of v p) =
           ap (λ k. get_or (changed_at (lane_after_submit b) b.queue v.lanes) k no_lane) (sym same.1)
           ∙ get_or_changed (lane_after_submit b) v.lanes b.queue no_lane within ∙ ap (λ k. lane_after_submit b (get_or v.lanes k no_lane)) same.1 in
-        ap (λ (l : Lane). length l.batches) here ∙ length-append (lane_of v p).batches (started b ∷ [])
-        ∙ ap (λ t. length (lane_of v p).batches + (if t then 1 else 0)) (sym same.0)
-    | inr other ↦
-        ap (λ (l : Lane). length l.batches) (get_or_changed_other (lane_after_submit b) v.lanes b.queue p no_lane other.1)
-        ∙ omega arith ∙ ap (λ t. length (lane_of v p).batches + (if t then 1 else 0)) (sym other.0) ]
+          ap (λ (l : Lane). length l.batches) here ∙ length-append (lane_of v p).batches (started b ∷ [])
+          ∙ ap (λ t. length (lane_of v p).batches + (if t then 1 else 0)) (sym same.0)
+      | inr other ↦
+          ap (λ (l : Lane). length l.batches) (get_or_changed_other (lane_after_submit b) v.lanes b.queue p no_lane other.1)
+          ∙ omega arith ∙ ap (λ t. length (lane_of v p).batches + (if t then 1 else 0)) (sym other.0)
+    ]
 
 journal_after : (b : Batch) (p : ℕ) (v : VkState) → length (of_queue p (after_submit v b).journal) ≡ length (of_queue p v.journal) + (if (b.queue == p) then 1 else 0)
 journal_after b p v =
@@ -130,22 +131,23 @@ held_after : (w : World) (h : List Event) (v u : VkState) (q : ℕ) (x : Queued)
 held_after w h v u q x o held are at head done submitted = record {
   count = length_changed (submitted_one o) held q ∙ are.count;
   each = λ p y there.
-    let long : length (changed_at (submitted_one o) q held) ≡ length held = length_changed (submitted_one o) held q in
-    let within : p < length w.queues = omega (arith, slice_get_within (changed_at (submitted_one o) q held) p y there, long, are.count) in
-    elim (eqb_tells q p) [
-      inl same ↦
-        let here : slice_get (changed_at (submitted_one o) q held) q ≡ Some y = ap (slice_get (changed_at (submitted_one o) q held)) same.1 ∙ there in
-        let found : (z : Queued) × (slice_get held q ≡ Some z) × (y ≡ submitted_one o z) = mapped_some (submitted_one o) (slice_get held q) y (sym (get_changed (submitted_one o) held q) ∙ here) in
-        let is_x : found.0 ≡ x = let e : Some found.0 ≡ Some x = sym found.1 ∙ at in grind arith in
-        let is_y : y ≡ submitted_one o x = found.2 ∙ ap (submitted_one o) is_x in
-        let next : submitted_of u q ≡ submitted_of v q + 1 =
-          submitted q (omega (arith, within, same.1)) ∙ ap (λ t. submitted_of v q + (if t then 1 else 0)) (ap (λ k. q == k) same.1 ∙ same.0) in
-        subst (λ k. IsHeld w h u k y) same.1
-          (held_submit w h v u q x y o (are.each q x at) done head next (ap (λ (z : Queued). z.submitted) is_y) (ap (λ (z : Queued). z.last_signal) is_y)
+      let long : length (changed_at (submitted_one o) q held) ≡ length held = length_changed (submitted_one o) held q in
+      let within : p < length w.queues = omega (arith, slice_get_within (changed_at (submitted_one o) q held) p y there, long, are.count) in
+      elim (eqb_tells q p) [
+        | inl same ↦
+            let here : slice_get (changed_at (submitted_one o) q held) q ≡ Some y = ap (slice_get (changed_at (submitted_one o) q held)) same.1 ∙ there in
+            let found : (z : Queued) × (slice_get held q ≡ Some z) × (y ≡ submitted_one o z) = mapped_some (submitted_one o) (slice_get held q) y (sym (get_changed (submitted_one o) held q) ∙ here) in
+            let is_x : found.0 ≡ x = let e : Some found.0 ≡ Some x = sym found.1 ∙ at in grind arith in
+            let is_y : y ≡ submitted_one o x = found.2 ∙ ap (submitted_one o) is_x in
+            let next : submitted_of u q ≡ submitted_of v q + 1 =
+            submitted q (omega (arith, within, same.1)) ∙ ap (λ t. submitted_of v q + (if t then 1 else 0)) (ap (λ k. q == k) same.1 ∙ same.0) in
+            subst (λ k. IsHeld w h u k y) same.1
+            (held_submit w h v u q x y o (are.each q x at) done head next (ap (λ (z : Queued). z.submitted) is_y) (ap (λ (z : Queued). z.last_signal) is_y)
             (ap (λ (z : Queued). z.signals) is_y) (ap (λ (z : Queued). z.operations) is_y))
-    | inr other ↦
-        same_held w h v u p y (are.each p y (sym (get_changed_other (submitted_one o) held q p other.1) ∙ there))
-          (submitted p within ∙ ap (λ t. submitted_of v p + (if t then 1 else 0)) other.0 ∙ omega arith) ];
+        | inr other ↦
+            same_held w h v u p y (are.each p y (sym (get_changed_other (submitted_one o) held q p other.1) ∙ there))
+            (submitted p within ∙ ap (λ t. submitted_of v p + (if t then 1 else 0)) other.0 ∙ omega arith)
+      ];
 }
 
 -- the submission of the next operation of a queue
@@ -161,7 +163,7 @@ consistent_submit w h lists seats fences held v q x o is at head =
     let stands : Stands w h v = is.device.stands in
     let next : next_number q v.journal ≡ submitted_of v q + 1 = next_is w v stands.rest q stands.begins (stands.queues q within).numbered in
     let called : slice_get (operations w h q) (submitted_of v q) ≡ Some o =
-      ap (slice_get (operations w h q)) (sym holds.submitted_is) ∙ sym (slice_get_drop x.submitted (operations w h q)) ∙ ap (λ xs. slice_get xs 0) (sym holds.rest) ∙ head in
+    ap (slice_get (operations w h q)) (sym holds.submitted_is) ∙ sym (slice_get_drop x.submitted (operations w h q)) ∙ ap (λ xs. slice_get xs 0) (sym holds.rest) ∙ head in
     let after : Stands w h u = stands_submit w h v q o stands within called in
     let count : submitted_of v q ≡ length (of_queue q stands.rest) = submitted_is w v stands.rest q stands.begins (stands.queues q within).numbered in
     record {
@@ -171,7 +173,7 @@ consistent_submit w h lists seats fences held v q x o is at head =
       seats_are = is.seats_are;
       fences_are = is.fences_are;
       held_are = held_after w h v u q x o held is.held_are at head (omega (arith, (stands.queues q within).done, holds.submitted_is, count))
-        (λ p inside. submitted_after w h v b p stands after inside);
+          (λ p inside. submitted_after w h v b p stands after inside);
       device = record {
         valid = submit_valid v b lanes (sym next) is.device.valid;
         objects = submit_matches (plan_of_world w) v b is.device.objects;

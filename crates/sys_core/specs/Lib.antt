@@ -10,3 +10,6 @@ pub mod Work
 pub mod Keeps
 pub mod Ahead
 pub mod FormRuns
+pub mod First
+pub mod Values
+pub mod Report

@@ -82,7 +82,13 @@ fn update_by(fences: &mut Seq<Room<u64>>, signal: Option<Signalled>)
 }
 
 /// A step of the device. Refused, all stays but room.
-pub(crate) fn device_step<D: VkDevice>(world: &World, history: &mut Room<Event>, parts: &mut Parts, device: &mut D, k: usize) -> Result<(), SysFault>
+pub(crate) fn device_step<D: VkDevice>(
+    world: &World,
+    history: &mut Room<Event>,
+    parts: &mut Parts,
+    device: &mut D,
+    k: usize,
+) -> Result<(), SysFault>
     requires keeps { Keeps D.state D.plan_of world.now history.old.items parts.old device.old }
     requires offered { k < steps_offered (D.state device.old) (D.offered device.old) }
     ensures keeps { Keeps D.state D.plan_of world.now history.new.items parts.new device.new }

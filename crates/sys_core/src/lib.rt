@@ -3,12 +3,16 @@
 
 mod device_steps;
 mod faults;
+mod first;
 mod lowering;
 mod parts;
+mod runner;
 mod serve;
+mod sys;
 mod threads;
 mod worker;
 
 pub use faults::SysFault;
 pub use lowering::{batch_of, plan_of};
 pub use parts::{Armed, Held, Parts, Seat, Signalled};
+pub use runner::simulate;

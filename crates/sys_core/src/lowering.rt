@@ -65,12 +65,25 @@ fn one_pair(alloc: Global, timeline: u32, value: u64) -> Result<Seq<(u32, u64)>,
 }
 
 /// The batch of an operation of a queue, with its number, behind a last signal of that number.
-pub fn batch_of(alloc: Global, world: &World, queue: u32, number: u64, last_signal: u64, operation: &Operation) -> Result<Batch, Memory>
+pub fn batch_of(
+    alloc: Global,
+    world: &World,
+    queue: u32,
+    number: u64,
+    last_signal: u64,
+    operation: &Operation,
+) -> Result<Batch, Memory>
     requires queues { length world.now.queues ≤ 16 }
     requires small { is_small_operation operation.now ≡ true }
     ensures { IfOk result (λ batch. batch ≡ batch_by world.now queue number last_signal operation.now) }
 {
-    let waits = waits_of(alloc, world.queues.len() as u32, queue, last_signal, operation)?;
+    let waits = waits_of(
+        alloc,
+        world.queues.len() as u32,
+        queue,
+        last_signal,
+        operation,
+    )?;
     let commands = commands_of(alloc, operation)?;
     let sets = one_pair(alloc, queue, number)?;
     Ok(Batch {
@@ -83,7 +96,13 @@ pub fn batch_of(alloc: Global, world: &World, queue: u32, number: u64, last_sign
 }
 
 /// The waits of an operation's batch: an execute's for the start-up and for its queue's last signal.
-fn waits_of(alloc: Global, startup: u32, queue: u32, last_signal: u64, operation: &Operation) -> Result<Seq<(u32, u64)>, Memory>
+fn waits_of(
+    alloc: Global,
+    startup: u32,
+    queue: u32,
+    last_signal: u64,
+    operation: &Operation,
+) -> Result<Seq<(u32, u64)>, Memory>
     ensures { IfOk result (λ waits. waits ≡ waits_by startup queue last_signal operation.now) }
 {
     match operation {
@@ -93,7 +112,12 @@ fn waits_of(alloc: Global, startup: u32, queue: u32, last_signal: u64, operation
 }
 
 /// The waits of an execute's batch.
-fn execute_waits(alloc: Global, startup: u32, queue: u32, last_signal: u64) -> Result<Seq<(u32, u64)>, Memory>
+fn execute_waits(
+    alloc: Global,
+    startup: u32,
+    queue: u32,
+    last_signal: u64,
+) -> Result<Seq<(u32, u64)>, Memory>
     ensures { IfOk result (λ waits. waits ≡ (startup, 1) ∷ own_wait queue last_signal) }
 {
     let mut waits = one_pair(alloc, startup, 1)?;
@@ -159,7 +183,13 @@ fn lowered_record(what: Record) -> VkCommand
     ensures { result ≡ lower_record what }
 {
     match what {
-        Record::Copy { to, to_offset, from, from_offset, bytes } => VkCommand::Copy {
+        Record::Copy {
+            to,
+            to_offset,
+            from,
+            from_offset,
+            bytes,
+        } => VkCommand::Copy {
             to: to.0,
             to_first: (to_offset / 4) as u32,
             from: from.0,

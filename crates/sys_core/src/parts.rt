@@ -141,7 +141,11 @@ fn empty_queue(alloc: Global) -> Held
 
 /// Puts an operation behind those of a queue. Refused for memory, the queues stay.
 #[tactic(auto, using(dx_base::proofs::Lists::map_write, dx_base::proofs::Lists::map_write_same))]
-pub(crate) fn push_operation(held: &mut Seq<Held>, queue: QueueId, operation: Operation) -> Result<(), Memory>
+pub(crate) fn push_operation(
+    held: &mut Seq<Held>,
+    queue: QueueId,
+    operation: Operation,
+) -> Result<(), Memory>
     requires { queue.0 < length held.old }
     ensures ok { OnOk result (map queued held.new ≡ changed_at (with_operation operation) queue.0 (map queued held.old)) }
     ensures same { OnErr result (map queued held.new ≡ map queued held.old) }

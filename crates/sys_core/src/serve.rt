@@ -25,7 +25,13 @@ use vk_port::VkDevice;
 
 /// A host write that is not refused.
 #[tactic(auto, using(crate::proofs::Inside::write_inside, crate::proofs::Inside::write_small))]
-fn write_words<D: VkDevice>(world: &World, device: &mut D, buffer: ResourceId, offset: u64, words: &Seq<u32>) -> Result<(), SysFault>
+fn write_words<D: VkDevice>(
+    world: &World,
+    device: &mut D,
+    buffer: ResourceId,
+    offset: u64,
+    words: &Seq<u32>,
+) -> Result<(), SysFault>
     requires plan { IsSome (D.plan_of device.old) }
     requires buffers { HasBuffers world.now (D.state device.old) }
     requires good { refusal_of_write world.now buffer.0 offset (length words.now) ≡ None }
@@ -42,7 +48,13 @@ fn write_words<D: VkDevice>(world: &World, device: &mut D, buffer: ResourceId, o
 
 /// A host read that is not refused.
 #[tactic(auto, using(crate::proofs::Inside::read_inside, crate::proofs::Inside::read_small, crate::proofs::Inside::read_count_small))]
-fn read_words<D: VkDevice>(world: &World, device: &mut D, buffer: ResourceId, offset: u64, bytes: u64) -> Result<Reply, SysFault>
+fn read_words<D: VkDevice>(
+    world: &World,
+    device: &mut D,
+    buffer: ResourceId,
+    offset: u64,
+    bytes: u64,
+) -> Result<Reply, SysFault>
     requires plan { IsSome (D.plan_of device.old) }
     requires buffers { HasBuffers world.now (D.state device.old) }
     requires good { refusal_of_read world.now buffer.0 offset bytes ≡ None }
@@ -58,7 +70,14 @@ fn read_words<D: VkDevice>(world: &World, device: &mut D, buffer: ResourceId, of
 }
 
 /// Serves a call that writes a buffer.
-fn serve_write<D: VkDevice>(world: &World, lists: &Lists, device: &mut D, buffer: ResourceId, offset: u64, words: &Seq<u32>) -> Result<Reply, SysFault>
+fn serve_write<D: VkDevice>(
+    world: &World,
+    lists: &Lists,
+    device: &mut D,
+    buffer: ResourceId,
+    offset: u64,
+    words: &Seq<u32>,
+) -> Result<Reply, SysFault>
     requires plan { IsSome (D.plan_of device.old) }
     requires buffers { HasBuffers world.now (D.state device.old) }
     ensures reply { IfOk result (λ reply. reply ≡ reply_by world.now lists.now (D.state device.old) (write_call buffer offset words.now)) }
@@ -80,7 +99,14 @@ fn serve_write<D: VkDevice>(world: &World, lists: &Lists, device: &mut D, buffer
 }
 
 /// Serves a call that reads a buffer.
-fn serve_read<D: VkDevice>(world: &World, lists: &Lists, device: &mut D, buffer: ResourceId, offset: u64, bytes: u64) -> Result<Reply, SysFault>
+fn serve_read<D: VkDevice>(
+    world: &World,
+    lists: &Lists,
+    device: &mut D,
+    buffer: ResourceId,
+    offset: u64,
+    bytes: u64,
+) -> Result<Reply, SysFault>
     requires plan { IsSome (D.plan_of device.old) }
     requires buffers { HasBuffers world.now (D.state device.old) }
     ensures reply { IfOk result (λ reply. reply ≡ reply_by world.now lists.now (D.state device.old) (read_call buffer offset bytes)) }
@@ -99,7 +125,13 @@ fn serve_read<D: VkDevice>(world: &World, lists: &Lists, device: &mut D, buffer:
 
 /// Serves a call that executes lists on a queue: one operation more, with the lists' commands in order.
 #[tactic(auto, using(crate::proofs::Serving::execute_lists_by))]
-fn serve_execute(alloc: Global, world: &World, parts: &mut Parts, queue: QueueId, lists: &Seq<ListId>) -> Result<Reply, Memory>
+fn serve_execute(
+    alloc: Global,
+    world: &World,
+    parts: &mut Parts,
+    queue: QueueId,
+    lists: &Seq<ListId>,
+) -> Result<Reply, Memory>
     requires { queue.0 < length parts.old.held }
     ensures reply { IfOk result (λ reply. reply ≡ reply_or (execute_refusal world.now parts.old.lists queue.0 lists.now) done) }
     ensures parts { OnOk result (Serves world.now (execute_call queue lists.now) parts.old parts.new) }
@@ -115,7 +147,13 @@ fn serve_execute(alloc: Global, world: &World, parts: &mut Parts, queue: QueueId
 }
 
 /// Serves a call that signals a fence on a queue: one operation more.
-fn serve_signal(world: &World, parts: &mut Parts, queue: QueueId, fence: FenceId, value: u64) -> Result<Reply, Memory>
+fn serve_signal(
+    world: &World,
+    parts: &mut Parts,
+    queue: QueueId,
+    fence: FenceId,
+    value: u64,
+) -> Result<Reply, Memory>
     requires { queue.0 < length parts.old.held }
     ensures reply { IfOk result (λ reply. reply ≡ done) }
     ensures parts { OnOk result (Serves world.now (signal_call queue fence value) parts.old parts.new) }
@@ -138,7 +176,12 @@ fn answered(answer: Result<(), Hresult>) -> Reply
 
 /// Serves a recording call.
 #[tactic(auto, using(crate::proofs::Serving::record_lists_by))]
-fn serve_recording(world: &World, parts: &mut Parts, list: ListId, what: Record) -> Result<Reply, Memory>
+fn serve_recording(
+    world: &World,
+    parts: &mut Parts,
+    list: ListId,
+    what: Record,
+) -> Result<Reply, Memory>
     requires { list.0 < length parts.old.lists }
     ensures reply { IfOk result (λ reply. reply ≡ reply_or (record_refusal parts.old.lists list.0) done) }
     ensures parts { OnOk result (Serves world.now (recording_call list what) parts.old parts.new) }
@@ -170,7 +213,13 @@ fn serve_reset(world: &World, parts: &mut Parts, list: ListId, allocator: Alloca
 
 /// Serves a call of a thread that does not wait. The beginning of a wait is left to its caller.
 #[tactic(auto, using(crate::proofs::Serving::device_stays))]
-pub(crate) fn serve<D: VkDevice>(alloc: Global, world: &World, parts: &mut Parts, device: &mut D, call: &Call) -> Result<Reply, SysFault>
+pub(crate) fn serve<D: VkDevice>(
+    alloc: Global,
+    world: &World,
+    parts: &mut Parts,
+    device: &mut D,
+    call: &Call,
+) -> Result<Reply, SysFault>
     requires plan { IsSome (D.plan_of device.old) }
     requires buffers { HasBuffers world.now (D.state device.old) }
     requires queues { length parts.old.held ≡ length world.now.queues }
@@ -191,9 +240,21 @@ pub(crate) fn serve<D: VkDevice>(alloc: Global, world: &World, parts: &mut Parts
         Call::Close { list } => Ok(serve_close(world, parts, *list)),
         Call::Reset { list, allocator } => Ok(serve_reset(world, parts, *list, *allocator)),
         Call::Execute { queue, lists } => Ok(serve_execute(alloc, world, parts, *queue, lists)?),
-        Call::Signal { queue, fence, value } => Ok(serve_signal(world, parts, *queue, *fence, *value)?),
+        Call::Signal {
+            queue,
+            fence,
+            value,
+        } => Ok(serve_signal(world, parts, *queue, *fence, *value)?),
         Call::HostWait { .. } => Ok(Reply::Done),
-        Call::Write { buffer, offset, words } => serve_write(world, &parts.lists, device, *buffer, *offset, words),
-        Call::Read { buffer, offset, bytes } => serve_read(world, &parts.lists, device, *buffer, *offset, *bytes),
+        Call::Write {
+            buffer,
+            offset,
+            words,
+        } => serve_write(world, &parts.lists, device, *buffer, *offset, words),
+        Call::Read {
+            buffer,
+            offset,
+            bytes,
+        } => serve_read(world, &parts.lists, device, *buffer, *offset, *bytes),
     }
 }

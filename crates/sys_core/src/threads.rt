@@ -56,7 +56,14 @@ fn wake(seats: &mut Seq<Seat>, thread: usize)
 }
 
 /// A thread's step: it wakes where it waits, and otherwise makes its next call. Refused, all stays but room.
-pub(crate) fn thread_step<D: VkDevice>(alloc: Global, world: &World, history: &mut Room<Event>, parts: &mut Parts, device: &mut D, thread: ThreadId) -> Result<(), SysFault>
+pub(crate) fn thread_step<D: VkDevice>(
+    alloc: Global,
+    world: &World,
+    history: &mut Room<Event>,
+    parts: &mut Parts,
+    device: &mut D,
+    thread: ThreadId,
+) -> Result<(), SysFault>
     requires keeps { Keeps D.state D.plan_of world.now history.old.items parts.old device.old }
     requires ready { is_ready_thread world.now history.old.items thread.0 ≡ true }
     ensures keeps { Keeps D.state D.plan_of world.now history.new.items parts.new device.new }

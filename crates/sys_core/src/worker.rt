@@ -17,7 +17,12 @@ use std::alloc::Global;
 use vk_port::{Batch, VkDevice};
 
 /// The batch of a queue's next operation, with room for its signal.
-fn next_batch(alloc: Global, world: &World, held: &mut Held, queue: QueueId) -> Result<Batch, Memory>
+fn next_batch(
+    alloc: Global,
+    world: &World,
+    held: &mut Held,
+    queue: QueueId,
+) -> Result<Batch, Memory>
     requires one_queue { length world.now.queues ≤ 16 }
     requires next { IsSome (slice_get held.old.operations.items 0) }
     requires small { IfSome (slice_get held.old.operations.items 0) (λ o. is_small_operation o ≡ true) }
@@ -28,7 +33,14 @@ fn next_batch(alloc: Global, world: &World, held: &mut Held, queue: QueueId) -> 
 {
     held.signals.reserve()?;
     match held.operations.front() {
-        Some(operation) => batch_of(alloc, world, queue.0, held.submitted + 1, held.last_signal, operation),
+        Some(operation) => batch_of(
+            alloc,
+            world,
+            queue.0,
+            held.submitted + 1,
+            held.last_signal,
+            operation,
+        ),
         None => unreachable!(),
     }
 }
@@ -57,7 +69,14 @@ fn count_submitted(held: &mut Held)
 }
 
 /// A step of a queue's worker: the batch of its next operation is submitted. Refused, all stays but room.
-pub(crate) fn worker_step<D: VkDevice>(alloc: Global, world: &World, history: &Room<Event>, parts: &mut Parts, device: &mut D, queue: QueueId) -> Result<(), SysFault>
+pub(crate) fn worker_step<D: VkDevice>(
+    alloc: Global,
+    world: &World,
+    history: &Room<Event>,
+    parts: &mut Parts,
+    device: &mut D,
+    queue: QueueId,
+) -> Result<(), SysFault>
     requires keeps { Keeps D.state D.plan_of world.now history.now.items parts.old device.old }
     requires queue { queue.0 < length world.now.queues }
     requires ready { is_ready_worker world.now history.now.items (D.state device.old) queue.0 ≡ true }

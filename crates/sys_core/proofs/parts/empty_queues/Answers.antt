@@ -15,4 +15,4 @@ queues_more held more x qs i is empty so_far within =
 pub loop-queue-preserved : goal.loop-queue-preserved
 loop-queue-preserved c =
     queues_more c.loop-queue.held c.push.new.self c.empty_queue.result c.args.queues.now c.loop-queue.queue-index
-      c.in_ok-push.ensures.ok c.empty_queue.ensures c.loop-queue.invariant c.loop-queue-test.true
+    c.in_ok-push.ensures.ok c.empty_queue.ensures c.loop-queue.invariant c.loop-queue-test.true

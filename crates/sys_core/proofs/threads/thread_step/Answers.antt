@@ -34,8 +34,8 @@ at-script-requires g c =
 pub at-requires : goal.at-requires
 at-requires g c =
     subst (λ xs. c.at-seat.result.now.made < length xs) (script_is c.args.world.now.scripts c.args.thread.0 c.at-script.result.now c.at-script.ensures)
-      (threading.call_left g.D.VkDevice.state g.D.VkDevice.plan_of c.args.world.now c.args.history.now.items c.args.parts.now c.args.device.now c.requires.keeps
-        c.args.thread.0 c.at-seat.result.now c.at-seat.ensures c.in-None.is c.requires.ready)
+    (threading.call_left g.D.VkDevice.state g.D.VkDevice.plan_of c.args.world.now c.args.history.now.items c.args.parts.now c.args.device.now c.requires.keeps
+    c.args.thread.0 c.at-seat.result.now c.at-seat.ensures c.in-None.is c.requires.ready)
 
 pub serve-requires-clause-buffers : goal.serve-requires-clause-buffers
 serve-requires-clause-buffers g c =
@@ -51,28 +51,28 @@ call_at w t script m x c at there same = ap (λ cs. slice_get cs m) (script_is w
 pub serve-requires-clause-named : goal.serve-requires-clause-named
 serve-requires-clause-named g c =
     threading.named_is g.D.VkDevice.state g.D.VkDevice.plan_of c.args.world.now c.args.history.now.items c.args.parts.now c.args.device.now c.requires.keeps c.args.thread.0 c.at-seat.result.now c.in_ok-call-in-None.call c.at-seat.ensures
-      (call_at c.args.world.now c.args.thread.0 c.at-script.result.now c.at-seat.result.now.made c.at.result.now c.in_ok-call-in-None.call c.at-script.ensures c.at.ensures c.in_ok-call-in-None.ensures)
+    (call_at c.args.world.now c.args.thread.0 c.at-script.result.now c.at-seat.result.now.made c.at.result.now c.in_ok-call-in-None.call c.at-script.ensures c.at.ensures c.in_ok-call-in-None.ensures)
 
 pub seat_call-requires-clause-thread : goal.seat_call-requires-clause-thread
 seat_call-requires-clause-thread g c =
     subst (λ xs. c.args.thread.0 < length xs) (sym c.in_ok-reply-in-None.ensures.parts.seats)
-      (threading.thread_there g.D.VkDevice.state g.D.VkDevice.plan_of c.args.world.now c.args.history.now.items c.args.parts.now c.args.device.now c.requires.keeps c.args.thread.0 c.requires.ready).0
+    (threading.thread_there g.D.VkDevice.state g.D.VkDevice.plan_of c.args.world.now c.args.history.now.items c.args.parts.now c.args.device.now c.requires.keeps c.args.thread.0 c.requires.ready).0
 
 pub seat_call-requires-clause-small : goal.seat_call-requires-clause-small
 seat_call-requires-clause-small g c =
     let left : c.at-seat.result.now.made < length c.at-script.result.now =
-      subst (λ xs. c.at-seat.result.now.made < length xs) (script_is c.args.world.now.scripts c.args.thread.0 c.at-script.result.now c.at-script.ensures)
-        (threading.call_left g.D.VkDevice.state g.D.VkDevice.plan_of c.args.world.now c.args.history.now.items c.args.parts.now c.args.device.now c.requires.keeps c.args.thread.0 c.at-seat.result.now c.at-seat.ensures c.in-None.is c.requires.ready) in
+    subst (λ xs. c.at-seat.result.now.made < length xs) (script_is c.args.world.now.scripts c.args.thread.0 c.at-script.result.now c.at-script.ensures)
+    (threading.call_left g.D.VkDevice.state g.D.VkDevice.plan_of c.args.world.now c.args.history.now.items c.args.parts.now c.args.device.now c.requires.keeps c.args.thread.0 c.at-seat.result.now c.at-seat.ensures c.in-None.is c.requires.ready) in
     omega (arith, left, c.len-count.ensures, c.len-count.type_inv)
 
 pub returns-in-Some-clause-keeps : goal.returns-in-Some-clause-keeps
 returns-in-Some-clause-keeps g c =
     subst (λ k. Keeps g.D.VkDevice.state g.D.VkDevice.plan_of c.args.world.now k
-        (record { lists = c.args.parts.now.lists; seats = c.wake.new.seats; fences = c.args.parts.now.fences; held = c.args.parts.now.held }) c.args.device.now)
-      (sym (c.push_reserved.ensures ∙ ap (λ xs. xs ++ event.Awake c.args.thread ∷ []) c.reserve.ensures.items))
-      (keeps_awake g.D.VkDevice.state g.D.VkDevice.plan_of c.args.world.now c.args.history.now.items c.args.parts.now
-        (record { lists = c.args.parts.now.lists; seats = c.wake.new.seats; fences = c.args.parts.now.fences; held = c.args.parts.now.held })
-        c.args.device.now c.args.thread c.at-seat.result.now c.in-Some.field-0 c.requires.keeps c.at-seat.ensures c.in-Some.is c.requires.ready refl refl refl c.wake.ensures)
+    (record { lists = c.args.parts.now.lists; seats = c.wake.new.seats; fences = c.args.parts.now.fences; held = c.args.parts.now.held }) c.args.device.now)
+    (sym (c.push_reserved.ensures ∙ ap (λ xs. xs ++ event.Awake c.args.thread ∷ []) c.reserve.ensures.items))
+    (keeps_awake g.D.VkDevice.state g.D.VkDevice.plan_of c.args.world.now c.args.history.now.items c.args.parts.now
+    (record { lists = c.args.parts.now.lists; seats = c.wake.new.seats; fences = c.args.parts.now.fences; held = c.args.parts.now.held })
+    c.args.device.now c.args.thread c.at-seat.result.now c.in-Some.field-0 c.requires.keeps c.at-seat.ensures c.in-Some.is c.requires.ready refl refl refl c.wake.ensures)
 
 pub returns-in-Some-clause-event : goal.returns-in-Some-clause-event
 returns-in-Some-clause-event g c =
@@ -82,22 +82,22 @@ returns-in-Some-clause-event g c =
 pub returns-in-Some-clause-state : goal.returns-in-Some-clause-state
 returns-in-Some-clause-state g c =
     ap (after_event c.args.world.now c.args.history.now.items (g.D.VkDevice.state c.args.device.now))
-      (threading.awake_event g.D.VkDevice.state g.D.VkDevice.plan_of c.args.world.now c.args.history.now.items c.args.parts.now c.args.device.now c.requires.keeps c.args.thread c.at-seat.result.now c.in-Some.field-0 c.at-seat.ensures c.in-Some.is)
+    (threading.awake_event g.D.VkDevice.state g.D.VkDevice.plan_of c.args.world.now c.args.history.now.items c.args.parts.now c.args.device.now c.requires.keeps c.args.thread c.at-seat.result.now c.in-Some.field-0 c.at-seat.ensures c.in-Some.is)
 
 pub returns-in_ok-reply-in-None-clause-keeps : goal.returns-in_ok-reply-in-None-clause-keeps
 returns-in_ok-reply-in-None-clause-keeps g c =
     let x : Parts = record { lists = c.serve.new.parts.lists; seats = c.seat_call.new.seats; fences = c.serve.new.parts.fences; held = c.serve.new.parts.held } in
     let call : Call = c.in_ok-call-in-None.call in
     let next : slice_get (script_of c.args.world.now c.args.thread.0) c.at-seat.result.now.made ≡ Some call =
-      call_at c.args.world.now c.args.thread.0 c.at-script.result.now c.at-seat.result.now.made c.at.result.now call c.at-script.ensures c.at.ensures c.in_ok-call-in-None.ensures in
+    call_at c.args.world.now c.args.thread.0 c.at-script.result.now c.at-seat.result.now.made c.at.result.now call c.at-script.ensures c.at.ensures c.in_ok-call-in-None.ensures in
     let served : Serves c.args.world.now call c.args.parts.now c.serve.new.parts = c.in_ok-reply-in-None.ensures.parts in
     subst (λ k. Keeps g.D.VkDevice.state g.D.VkDevice.plan_of c.args.world.now k x c.serve.new.device)
-      (sym (c.push_reserved-in-None.ensures ∙ ap (λ xs. xs ++ event.Call c.args.thread call c.in_ok-reply-in-None.reply ∷ []) c.reserve.ensures.items
-        ∙ ap (λ r. c.args.history.now.items ++ event.Call c.args.thread call r ∷ []) c.in_ok-reply-in-None.ensures.reply))
-      (keeps_call g.D.VkDevice.state g.D.VkDevice.plan_of c.args.world.now c.args.history.now.items c.args.parts.now c.serve.new.parts x c.args.device.now c.serve.new.device
-        c.args.thread call c.at-seat.result.now c.requires.keeps c.at-seat.ensures c.in-None.is next served c.in_ok-reply-in-None.ensures.state c.serve.ensures.plan
-        refl refl refl
-        (c.seat_call.ensures ∙ ap (λ fs. changed_at (seat_after (map updates_in fs) call) c.args.thread.0 c.serve.new.parts.seats) served.fences))
+    (sym (c.push_reserved-in-None.ensures ∙ ap (λ xs. xs ++ event.Call c.args.thread call c.in_ok-reply-in-None.reply ∷ []) c.reserve.ensures.items
+    ∙ ap (λ r. c.args.history.now.items ++ event.Call c.args.thread call r ∷ []) c.in_ok-reply-in-None.ensures.reply))
+    (keeps_call g.D.VkDevice.state g.D.VkDevice.plan_of c.args.world.now c.args.history.now.items c.args.parts.now c.serve.new.parts x c.args.device.now c.serve.new.device
+    c.args.thread call c.at-seat.result.now c.requires.keeps c.at-seat.ensures c.in-None.is next served c.in_ok-reply-in-None.ensures.state c.serve.ensures.plan
+    refl refl refl
+    (c.seat_call.ensures ∙ ap (λ fs. changed_at (seat_after (map updates_in fs) call) c.args.thread.0 c.serve.new.parts.seats) served.fences))
 
 pub returns-in_ok-reply-in-None-clause-event : goal.returns-in_ok-reply-in-None-clause-event
 returns-in_ok-reply-in-None-clause-event g c =
@@ -105,8 +105,8 @@ returns-in_ok-reply-in-None-clause-event g c =
     c.push_reserved-in-None.ensures ∙ ap (λ xs. xs ++ event.Call c.args.thread call c.in_ok-reply-in-None.reply ∷ []) c.reserve.ensures.items
     ∙ ap (λ r. c.args.history.now.items ++ event.Call c.args.thread call r ∷ []) c.in_ok-reply-in-None.ensures.reply
     ∙ ap (λ e. c.args.history.now.items ++ e ∷ [])
-      (threading.call_event_is g.D.VkDevice.state g.D.VkDevice.plan_of c.args.world.now c.args.history.now.items c.args.parts.now c.args.device.now c.requires.keeps c.args.thread c.at-seat.result.now call c.at-seat.ensures c.in-None.is
-        (call_at c.args.world.now c.args.thread.0 c.at-script.result.now c.at-seat.result.now.made c.at.result.now call c.at-script.ensures c.at.ensures c.in_ok-call-in-None.ensures))
+    (threading.call_event_is g.D.VkDevice.state g.D.VkDevice.plan_of c.args.world.now c.args.history.now.items c.args.parts.now c.args.device.now c.requires.keeps c.args.thread c.at-seat.result.now call c.at-seat.ensures c.in-None.is
+    (call_at c.args.world.now c.args.thread.0 c.at-script.result.now c.at-seat.result.now.made c.at.result.now call c.at-script.ensures c.at.ensures c.in_ok-call-in-None.ensures))
 
 pub returns-in_ok-reply-in-None-clause-state : goal.returns-in_ok-reply-in-None-clause-state
 returns-in_ok-reply-in-None-clause-state g c =
@@ -114,5 +114,5 @@ returns-in_ok-reply-in-None-clause-state g c =
     c.in_ok-reply-in-None.ensures.state
     ∙ threading.device_seen g.D.VkDevice.state g.D.VkDevice.plan_of c.args.world.now c.args.history.now.items c.args.parts.now c.args.device.now c.requires.keeps call c.args.thread (reply_by c.args.world.now c.args.parts.now.lists (g.D.VkDevice.state c.args.device.now) call)
     ∙ ap (after_event c.args.world.now c.args.history.now.items (g.D.VkDevice.state c.args.device.now))
-      (threading.call_event_is g.D.VkDevice.state g.D.VkDevice.plan_of c.args.world.now c.args.history.now.items c.args.parts.now c.args.device.now c.requires.keeps c.args.thread c.at-seat.result.now call c.at-seat.ensures c.in-None.is
-        (call_at c.args.world.now c.args.thread.0 c.at-script.result.now c.at-seat.result.now.made c.at.result.now call c.at-script.ensures c.at.ensures c.in_ok-call-in-None.ensures))
+    (threading.call_event_is g.D.VkDevice.state g.D.VkDevice.plan_of c.args.world.now c.args.history.now.items c.args.parts.now c.args.device.now c.requires.keeps c.args.thread c.at-seat.result.now call c.at-seat.ensures c.in-None.is
+    (call_at c.args.world.now c.args.thread.0 c.at-script.result.now c.at-seat.result.now.made c.at.result.now call c.at-script.ensures c.at.ensures c.in_ok-call-in-None.ensures))

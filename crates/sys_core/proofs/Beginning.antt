@@ -1,0 +1,36 @@
+-- The system keeps what it keeps, as it begins.
+use Rattle.std.proofs.Common.{ℕ, ◌≡◌, ◌∙◌, sym, ap, subst, refl, List, [], ◌∷◌, map, Some, Option}
+use Rattle.d3d_machine.specs.declared.world.World.{World}
+use Rattle.d3d_machine.specs.declared.events.Listed.{Listed}
+use Rattle.d3d_machine.specs.World.{IsWorld}
+use Rattle.d3d_machine.specs.State.{declared_list}
+use Rattle.vk_port.specs.declared.commands.Batch.{Batch}
+use Rattle.vk_port.specs.declared.plan.DevicePlan.{DevicePlan}
+use Rattle.vk_port.specs.VkState.{VkState, first_state}
+use Rattle.vk_port.specs.After.{after_submit}
+use Rattle.sys_core.specs.declared.parts.Parts.{Parts}
+use Rattle.sys_core.specs.declared.parts.Seat.{Seat}
+use Rattle.sys_core.specs.Lowering.{plan_of_world, startup}
+use Rattle.sys_core.specs.Parts.{Queued, queued, updates_in, no_queue, opening_seat}
+use Rattle.sys_core.specs.Consistent.{IsConsistent}
+use Rattle.sys_core.specs.Keeps.{Keeps}
+use Rattle.sys_core.proofs.Opening.{opened, consistent_open}
+
+-- the device when its objects are made and the start-up batch is submitted
+pub is_opened : (w : World) (plan : DevicePlan) (b : Batch) (v u : VkState) → plan ≡ plan_of_world w → b ≡ startup w → v ≡ first_state plan → u ≡ after_submit v b → u ≡ opened w
+is_opened w plan b v u planned batch made submitted =
+    submitted ∙ ap (λ x. after_submit x b) (made ∙ ap first_state planned) ∙ ap (after_submit (first_state (plan_of_world w))) batch
+
+pub begins : {D : Type 0} (state : D → VkState) (plan_of : D → Option DevicePlan) (w : World) → IsWorld w → (p : Parts) (d : D) →
+    p.lists ≡ map (λ _. declared_list) w.lists → p.seats ≡ map (λ _. opening_seat) w.scripts → map updates_in p.fences ≡ map (λ v. v ∷ []) w.fences →
+    map queued p.held ≡ map (λ _. no_queue) w.queues → state d ≡ opened w → plan_of d ≡ Some (plan_of_world w) → Keeps state plan_of w [] p d
+begins state plan_of w world p d lists seats fences held device plan = record {
+  consistent =
+      subst (λ v. IsConsistent w [] p.lists p.seats (map updates_in p.fences) (map queued p.held) v) (sym device)
+      (subst (λ x. IsConsistent w [] p.lists p.seats (map updates_in p.fences) x (opened w)) (sym held)
+      (subst (λ x. IsConsistent w [] p.lists p.seats x (map (λ _. no_queue) w.queues) (opened w)) (sym fences)
+      (subst (λ x. IsConsistent w [] p.lists x (map (λ v. v ∷ []) w.fences) (map (λ _. no_queue) w.queues) (opened w)) (sym seats)
+      (subst (λ x. IsConsistent w [] x (map (λ _. opening_seat) w.scripts) (map (λ v. v ∷ []) w.fences) (map (λ _. no_queue) w.queues) (opened w)) (sym lists)
+      (consistent_open w world)))));
+  plan = plan;
+}

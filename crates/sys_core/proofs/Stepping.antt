@@ -1,0 +1,134 @@
+-- Each step of the system leaves less work or fewer free steps, and what the history and the device say of each other.
+use Rattle.std.proofs.Common.{ℕ, ◌≡◌, ◌<◌, ◌≤◌, ◌+◌, ◌∙◌, sym, ap, subst, refl, arith, List, [], ◌∷◌, ◌++◌, length, Some, None, Option, true, append-nil, inl, inr}
+use Rattle.std.proofs.lemmas.Bool.{ltb-true}
+use Rattle.std.proofs.lemmas.Bool.Decides.{leb_tells}
+use Rattle.std.specs.List.{slice_get}
+use Rattle.std.specs.Prelude.{nat_lt}
+use Rattle.dx_base.specs.declared.ids.ThreadId.{ThreadId}
+use Rattle.d3d_machine.specs.declared.world.World.{World}
+use Rattle.d3d_machine.specs.declared.calls.Call.{Call}
+use Rattle.d3d_machine.specs.declared.calls.Reply.{Reply}
+use Rattle.d3d_machine.specs.declared.events.Operation.{Operation}
+use Rattle.d3d_machine.specs.declared.events.Event.{Event}
+use Rattle.d3d_machine.specs.declared.events.Event.TheVariants as event
+use Rattle.d3d_machine.specs.State.{Waiting, place_of, script_of, next_call}
+use Rattle.d3d_machine.specs.Play.{IsRunButWords, is_marked, state_after}
+use Rattle.d3d_machine.specs.Operations.{operations}
+use Rattle.vk_port.specs.declared.commands.Batch.{Batch}
+use Rattle.vk_port.specs.declared.plan.DevicePlan.{DevicePlan}
+use Rattle.vk_port.specs.declared.steps.Stepped.{Stepped}
+use Rattle.vk_port.specs.declared.steps.Stepped.TheVariants as stepped
+use Rattle.vk_port.specs.After.{after_step, after_submit}
+use Rattle.vk_port.specs.Enabled.{enabled_steps}
+use Rattle.vk_port.specs.VkState.{VkState}
+use Rattle.vk_port.proofs.Lists.{item_at}
+use Rattle.sys_core.specs.declared.parts.Parts.{Parts}
+use Rattle.sys_core.specs.Lowering.{lowered}
+use Rattle.sys_core.specs.Parts.{reply_by, device_by}
+use Rattle.sys_core.specs.Steps.{is_ready_thread, is_ready_worker, thread_event, place_event, call_event, seen_state, after_event, submitted_of, submitted_batches, next_batch, after_submits, step_events, IsDeviceStep}
+use Rattle.sys_core.specs.Work.{work}
+use Rattle.sys_core.specs.Ahead.{IsWhole}
+use Rattle.sys_core.specs.Keeps.{Keeps}
+use Rattle.sys_core.proofs.Threading.{reply_seen, device_seen}
+use Rattle.sys_core.proofs.Whole.{whole_call, whole_awake, whole_submit, whole_step}
+use Rattle.sys_core.proofs.Work.{call_falls, awake_falls, submit_falls, device_falls}
+
+-- a step that went: the work with the free steps left falls, and what the history and the device say of each other stays
+pub record Goes (w : World) (h k : List Event) (v u : VkState) (before after : ℕ) : Type 0 where
+  pub falls : work w k u + after < work w h v + before
+  pub whole : IsWhole w h v → IsWhole w k u
+
+-- the same, of what the history and the device are
+goes_of : (w : World) (h k l : List Event) (v u x : VkState) (a b : ℕ) → k ≡ l → u ≡ x → Goes w h l v x a b → Goes w h k v u a b
+goes_of w h k l v u x a b history state goes =
+    subst (λ y. Goes w h k v y a b) (sym state) (subst (λ y. Goes w h y v x a b) (sym history) goes)
+
+module _ {D : Type 0} (state : D → VkState) (plan_of : D → Option DevicePlan) (w : World) (h : List Event) (p : Parts) (d : D) (keeps : Keeps state plan_of w h p d) where
+  -- a thread whose wait is met
+  awake_went : (t : ThreadId) (x : Waiting) → is_ready_thread w h t.0 ≡ true → (place_of (state_after w h).desk t.0).waits ≡ Some x →
+      (a b : ℕ) → b ≡ a → Goes w h (h ++ event.Awake t ∷ []) (state d) (state d) a b
+  awake_went t x ready waits a b same =
+      let may : is_marked (place_of (state_after w h).desk t.0).waits ≡ true =
+      ap is_marked waits ∙ sym (ap (λ (o : Option Waiting). elim o [ None ↦ nat_lt (place_of (state_after w h).desk t.0).made (length (script_of w t.0)) | Some y ↦ y.marked ]) waits) ∙ ready in
+      record {
+        falls = omega (arith, awake_falls w h (state d) t x waits, same);
+        whole = whole_awake w h (state d) t keeps.consistent.world keeps.consistent.run keeps.consistent.device may;
+      }
+
+  -- a thread that makes its next call
+  call_went : (t : ThreadId) (c : Call) → (place_of (state_after w h).desk t.0).waits ≡ None → next_call w (state_after w h).desk t.0 ≡ Some c →
+      (a b : ℕ) → b ≡ a → Goes w h (h ++ event.Call t c (reply_by w p.lists (state d) c) ∷ []) (state d) (device_by w p.lists (state d) c) a b
+  call_went t c waits next a b same = record {
+    falls = omega (arith, call_falls w h (state d) (device_by w p.lists (state d) c) t c (reply_by w p.lists (state d) c) next refl refl, same);
+    whole = whole_call w h p.lists (state d) t c keeps.consistent.world keeps.consistent.run keeps.consistent.device keeps.consistent.lists_are waits next;
+  }
+
+  -- a thread's step, of the event that it makes
+  thread_by : (t : ThreadId) (e : Event) (k : List Event) (u : VkState) → thread_event w h (state d) t.0 ≡ e →
+      k ≡ h ++ thread_event w h (state d) t.0 ∷ [] → u ≡ after_event w h (state d) (thread_event w h (state d) t.0) →
+      (a b : ℕ) → Goes w h (h ++ e ∷ []) (state d) (after_event w h (state d) e) a b → Goes w h k (state d) u a b
+  thread_by t e k u is history device a b goes =
+      goes_of w h k (h ++ e ∷ []) (state d) u (after_event w h (state d) e) a b
+      (history ∙ ap (λ x. h ++ x ∷ []) is) (device ∙ ap (after_event w h (state d)) is) goes
+
+  -- a thread's step
+  pub thread_went : (t : ThreadId) → is_ready_thread w h t.0 ≡ true → (k : List Event) (u : VkState) → k ≡ h ++ thread_event w h (state d) t.0 ∷ [] →
+      u ≡ after_event w h (state d) (thread_event w h (state d) t.0) → (a b : ℕ) → b ≡ a → Goes w h k (state d) u a b
+  thread_went t ready k u history device a b same = by_waits (place_of (state_after w h).desk t.0).waits refl
+    where
+      by_waits : (o : Option Waiting) → (place_of (state_after w h).desk t.0).waits ≡ o → Goes w h k (state d) u a b
+      by_waits (Some x) waits =
+          thread_by t (event.Awake t) k u (ap (place_event w (seen_state w h (state d)) t.0) waits) history device a b
+          (awake_went t x ready waits a b same)
+      by_waits None waits =
+          let made : ℕ = (place_of (state_after w h).desk t.0).made in
+          let left : made < length (script_of w t.0) =
+          ltb-true made (length (script_of w t.0))
+          (sym (ap (λ (o : Option Waiting). elim o [ None ↦ nat_lt made (length (script_of w t.0)) | Some y ↦ y.marked ]) waits) ∙ ready) in
+          let found : (c : Call) × (next_call w (state_after w h).desk t.0 ≡ Some c) = item_at (script_of w t.0) made left in
+          let c : Call = found.0 in
+          let r : Reply = reply_by w p.lists (state d) c in
+          let is : thread_event w h (state d) t.0 ≡ event.Call t c r =
+          ap (place_event w (seen_state w h (state d)) t.0) waits
+          ∙ ap (call_event w (seen_state w h (state d)) t.0) found.1
+          ∙ sym (ap (event.Call t c) (reply_seen state plan_of w h p d keeps c)) in
+          thread_by t (event.Call t c r) k u is history device a b
+          (subst (λ x. Goes w h (h ++ event.Call t c r ∷ []) (state d) x a b) (device_seen state plan_of w h p d keeps c t r)
+          (call_went t c waits found.1 a b same))
+
+  -- a worker's step
+  pub worker_went : (q : ℕ) → q < length w.queues → is_ready_worker w h (state d) q ≡ true → (u : VkState) →
+      u ≡ after_submits (state d) (submitted_batches w h (state d) q) → (a b : ℕ) → b ≡ a → Goes w h h (state d) u a b
+  worker_went q within ready u device a b same =
+      let v : VkState = state d in
+      let os : List Operation = operations w h q in
+      let found : (o : Operation) × (slice_get os (submitted_of v q) ≡ Some o) =
+      item_at os (submitted_of v q) (ltb-true (submitted_of v q) (length os) ready) in
+      let o : Operation = found.0 in
+      let batch : Batch = lowered w h v.journal q (submitted_of v q + 1) o in
+      let lane : q < length v.lanes = omega (arith, within, keeps.consistent.device.objects.lanes) in
+      goes_of w h h h v u (after_submit v batch) a b refl (device ∙ ap (λ x. after_submits v (next_batch w h v q x)) found.1)
+      (record {
+        falls = omega (arith, submit_falls w h v q o batch within found.1 refl refl refl keeps.consistent.device.valid lane, same);
+        whole = whole_submit w h v q batch o keeps.consistent.world keeps.consistent.device within found.1 refl refl refl;
+      })
+
+  -- the device's first step
+  pub device_went : (k : List Event) (u : VkState) → IsDeviceStep h k (state d) u 0 → IsRunButWords w k →
+      (a b : ℕ) → b ≤ a → (length (enabled_steps (state d)) ≤ 0 → a ≡ b + 1) → Goes w h k (state d) u a b
+  device_went k u is run a b less free =
+      let v : VkState = state d in
+      let s : Stepped = is.step in
+      elim (leb_tells (length (enabled_steps v)) 0) [
+        | inl past ↦
+            let none : s ≡ stepped.Free = is.free past.1 in
+            goes_of w h k h v u v a b (is.history ∙ ap (λ x. h ++ step_events x) none ∙ append-nil h) (is.state ∙ ap (after_step v) none)
+            (record { falls = omega (arith, free past.1); whole = λ x. x })
+        | inr within ↦
+            let at : slice_get (enabled_steps v) 0 ≡ Some s = is.named within.1 in
+            goes_of w h k (h ++ step_events s) v u (after_step v s) a b is.history is.state
+            (record {
+              falls = omega (arith, device_falls w h v 0 s keeps.consistent.device.valid at, less);
+              whole = whole_step w h v s keeps.consistent.world keeps.consistent.run keeps.consistent.device at (subst (IsRunButWords w) is.history run);
+            })
+      ]

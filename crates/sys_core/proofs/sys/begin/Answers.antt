@@ -1,0 +1,24 @@
+-- The system is as it is before any call.
+use Rattle.std.proofs.Common.{ℕ, ◌≡◌, ◌∙◌, sym, ap, subst, refl, List, [], map, Some}
+use Rattle.vk_port.specs.VkState.{VkState, first_state}
+use Rattle.vk_port.specs.After.{after_submit}
+use Rattle.vk_port.specs.declared.commands.Batch.{Batch}
+use Rattle.vk_port.specs.declared.plan.DevicePlan.{DevicePlan}
+use Rattle.sys_core.specs.Ahead.{IsWhole}
+use Rattle.sys_core.specs.Lowering.{plan_of_world, startup}
+use Rattle.sys_core.proofs.Beginning.{begins, is_opened}
+use Rattle.sys_core.proofs.Opening.{opened}
+use Rattle.sys_core.proofs.Whole.{whole_first}
+use Rattle.sys_core.proofs.sys.begin.Goals as goal
+
+pub returns-clause-keeps : goal.returns-clause-keeps
+returns-clause-keeps g c =
+    begins g.D.VkDevice.state g.D.VkDevice.plan_of c.args.world.now c.requires.world c.in_ok-parts.parts c.submit.new.self c.in_ok-parts.ensures.lists c.in_ok-parts.ensures.seats c.in_ok-parts.ensures.fences c.in_ok-parts.ensures.held
+    (is_opened c.args.world.now c.in_ok-plan.plan c.in_ok-startup.startup (g.D.VkDevice.state c.create.new.self) (g.D.VkDevice.state c.submit.new.self) c.in_ok-plan.ensures c.in_ok-startup.ensures c.in_ok-create.ensures.state c.in_ok-submit.ensures.state)
+    (c.submit.ensures.plan ∙ c.in_ok-create.ensures.plan ∙ ap (λ x. Some x) c.in_ok-plan.ensures)
+
+pub returns-clause-whole : goal.returns-clause-whole
+returns-clause-whole g c =
+    subst (λ v. IsWhole c.args.world.now [] v)
+    (sym (is_opened c.args.world.now c.in_ok-plan.plan c.in_ok-startup.startup (g.D.VkDevice.state c.create.new.self) (g.D.VkDevice.state c.submit.new.self) c.in_ok-plan.ensures c.in_ok-startup.ensures c.in_ok-create.ensures.state c.in_ok-submit.ensures.state))
+    (whole_first c.args.world.now c.requires.world)
