@@ -22,5 +22,5 @@ bench: $(PROGRAM)
 
 # Only a proved program is built: `rt run` proves each crate below it, lowest first.
 $(PROGRAM): $(shell find crates -path '*/out' -prune -o -type f \( -name '*.rt' -o -name '*.antt' \) -print 2>/dev/null) crates.txt
-	cd crates/d3dsim && rt run > /dev/null
+	cd crates/d3dsim && rt run < stdin > /dev/null
 	@test -x $@ && touch $@
