@@ -9,6 +9,8 @@ mod parts;
 mod runner;
 mod serve;
 mod sys;
+#[cfg(test)]
+mod tests;
 mod threads;
 mod worker;
 
