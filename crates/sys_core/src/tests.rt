@@ -15,6 +15,14 @@ const ONE_ROUND: &str =
 /// What it prints.
 const ITS_OUTPUT: &str = "t 8 words 00000001 00000002 00000003 00000004\nfence f 1\n";
 
+/// Two rounds.
+const TWO_ROUNDS: &str =
+    "d3dtrace 1\nqueue q direct\nfence f 0\nbuffer u upload 16\nbuffer b readback 16\nallocator a direct\nlist l direct\nlist m direct\nthread t\nwrite u 0 1 2 3 4\nreset l a\ncopy l b 0 u 0 16\nclose l\nexecute q l\nsignal q f 1\nhostwait f 1\nread b 0 16\nwrite u 0 5 6 7 8\nreset l a\ncopy l b 0 u 0 16\nclose l\nexecute q l\nsignal q f 5\nhostwait f 5\nread b 0 16\nend\n";
+
+/// What they print.
+const THEIR_OUTPUT: &str =
+    "t 8 words 00000001 00000002 00000003 00000004\nt 16 words 00000005 00000006 00000007 00000008\nfence f 5\n";
+
 /// A run of a text. The call of the source, of the sink and of the device with these numbers, counted from 1, fails.
 fn run_of(alloc: Global, text: &str, fails: [u64; 3]) -> Result<(Status, BytesSink), Fail> {
     let [of_source, of_sink, of_device] = fails;
@@ -31,6 +39,7 @@ fn run_of(alloc: Global, text: &str, fails: [u64; 3]) -> Result<(Status, BytesSi
 fn runs_end_and_print_as_their_rows_say(rt: HostRuntime) -> Result<(), Fail> {
     let rows = [
         (ONE_ROUND, [0, 0, 0], Status::Done, ITS_OUTPUT),
+        (TWO_ROUNDS, [0, 0, 0], Status::Done, THEIR_OUTPUT),
         (
             "",
             [0, 0, 0],

@@ -14,8 +14,8 @@ use d3d_machine::{Call, Resource, World};
 use dx_base::{Home, ListType, Memory, Seq, TRACE_BYTES};
 use std::alloc::Global;
 
-/// Rounds of a trace.
-pub const ROUNDS: usize = 1;
+/// How many rounds a trace has at most.
+pub const ROUNDS: usize = 64;
 
 /// The lines that declare the objects.
 const DECLARATIONS: [&str; 9] = [
