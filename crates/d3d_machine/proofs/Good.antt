@@ -1,8 +1,7 @@
 -- All commands of lists and of operations are good, whatever the events.
-use Rattle.std.proofs.Common.{ℕ, zero, suc, ◌≡◌, ◌∙◌, sym, ap, refl, List, [], ◌∷◌, ◌++◌, length, map, Some, None, Option, Bool, true, false, cond}
-use Rattle.std.specs.List.{list_all, slice_get}
-use Rattle.std.specs.Prelude.{◌&&◌, ◌==◌, not, nat_le, if◌then◌else◌}
-use Rattle.dx_base.specs.Lists.{changed_at}
+use Rattle.std.proofs.Common.{ℕ, zero, suc, ◌≡◌, ◌∙◌, ap, refl, List, [], ◌∷◌, length, map, Some, None, Option, Bool, true, false}
+use Rattle.std.specs.List.{list_all}
+use Rattle.std.specs.Prelude.{◌==◌, not, nat_le, if◌then◌else◌}
 use Rattle.dx_base.specs.declared.hresult.Hresult.{Hresult}
 use Rattle.dx_base.specs.declared.hresult.Hresult.TheVariants.{InvalidArg, Fail}
 use Rattle.dx_base.proofs.Lists.{and_both, and_of, all_changed, all_append}
@@ -18,7 +17,7 @@ use Rattle.d3d_machine.specs.declared.events.Event.{Event}
 use Rattle.d3d_machine.specs.declared.events.Event.TheVariants as event
 use Rattle.d3d_machine.specs.State.{Desk, State, first_state, list_of, declared_list, is_recording}
 use Rattle.d3d_machine.specs.Replies.{refusal, refuse_if, argument_error, record_error, is_copy}
-use Rattle.d3d_machine.specs.Effects.{recorded, recorded_or, kept_or, closed, failed, begun, gathered, effect, after_refused, failed_if, desk_or, desk_after_operation, dropped, head_of, desk_after, after, after_all}
+use Rattle.d3d_machine.specs.Effects.{recorded, recorded_or, kept_or, closed, failed, begun, gathered, effect, after_refused, failed_if, desk_or, desk_after_operation, dropped, head_of, desk_after, after}
 use Rattle.d3d_machine.specs.Operations.{operation_of, unless_refused, called_by, operations_from, operations}
 use Rattle.d3d_machine.specs.Good.{is_good_record, is_good_command, is_good_list, is_good_operation}
 
@@ -55,7 +54,9 @@ effect_good w d t (call.Close l) good = all_changed (is_good_list w) closed l.0 
 effect_good w d t (call.Reset l a) good = all_changed (is_good_list w) (λ _. begun a.0) l.0 d.lists good (λ x is. refl)
 effect_good w d t (call.Execute q ls) good = good
 effect_good w d t (call.Signal q f v) good = good
+effect_good w d t (call.HostSignal f v) good = good
 effect_good w d t (call.HostWait f v) good = good
+effect_good w d t (call.Value f) good = good
 effect_good w d t (call.Write b o ws) good = good
 effect_good w d t (call.Read b o n) good = good
 
@@ -69,7 +70,9 @@ refused_good w d (call.Close l) good = failed_good w (is_recording (list_of d.li
 refused_good w d (call.Reset l a) good = good
 refused_good w d (call.Execute q ls) good = good
 refused_good w d (call.Signal q f v) good = good
+refused_good w d (call.HostSignal f v) good = good
 refused_good w d (call.HostWait f v) good = good
+refused_good w d (call.Value f) good = good
 refused_good w d (call.Write b o ws) good = good
 refused_good w d (call.Read b o n) good = good
 
@@ -108,7 +111,9 @@ called_good w None d q (call.Close l) good = refl
 called_good w None d q (call.Reset l a) good = refl
 called_good w None d q (call.Execute p ls) good = one_good w (p.0 == q) (operation.Execute (gathered d.lists (map (λ l. l.0) ls))) (gathered_good w d.lists (map (λ l. l.0) ls) good)
 called_good w None d q (call.Signal p f v) good = one_good w (p.0 == q) (operation.Signal f v) refl
+called_good w None d q (call.HostSignal f v) good = refl
 called_good w None d q (call.HostWait f v) good = refl
+called_good w None d q (call.Value f) good = refl
 called_good w None d q (call.Write b o ws) good = refl
 called_good w None d q (call.Read b o n) good = refl
 

@@ -12,3 +12,7 @@ pub mod Short
 pub mod CallsOnLists
 pub mod Sizes
 pub mod Good
+pub mod Served
+pub mod Steps
+pub mod Resources
+pub mod Machines

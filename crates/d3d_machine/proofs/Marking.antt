@@ -1,6 +1,7 @@
 -- The waits of a run are marked exactly where an update suffices that was current at their call or came since.
 use Rattle.std.proofs.Common.{ℕ, zero, suc, ◌≡◌, ◌<◌, ◌≤◌, ◌+◌, ◌||◌, nat_lt, nat_le, refl, sym, ap, ◌∙◌, subst, Bool, true, false, ◌⊎◌, inl, inr, List, [], ◌∷◌, ◌++◌, map, length, length-append, append_assoc, Option, Some, None, arith}
 use Rattle.std.specs.List.{list_any}
+use Rattle.std.specs.Option.{option_map}
 use Rattle.std.proofs.lemmas.Bool.{cases_eq}
 use Rattle.std.proofs.lemmas.Bool.Decides.{nat_tests}
 use Rattle.dx_base.specs.Lists.{changed_at}
@@ -18,9 +19,9 @@ use Rattle.d3d_machine.specs.declared.events.Event.TheVariants as event
 use Rattle.d3d_machine.specs.World.{IsWorld}
 use Rattle.d3d_machine.specs.State.{Waiting, Desk, State, Place, place_of, first_state, opening_place}
 use Rattle.d3d_machine.specs.Replies.{refusal}
-use Rattle.d3d_machine.specs.Effects.{effect, after_refused, desk_or, marked_option, dropped, desk_after_operation, head_of, desk_after_call, after, after_all}
+use Rattle.d3d_machine.specs.Effects.{effect, after_refused, desk_or, marked_place, marked_option, dropped, desk_after_operation, head_of, desk_after_call, after, after_all}
 use Rattle.d3d_machine.specs.Play.{May, SameButWords, IsRunButWords, state_after, calls_by}
-use Rattle.d3d_machine.specs.Fences.{update_of, updates_from, applied_updates, is_met}
+use Rattle.d3d_machine.specs.Fences.{update_of_call, update_of, updates_from, applied_updates, is_met}
 use Rattle.d3d_machine.specs.Marks.{waiting_at, marked_by, current_update, is_awake_of, IsMetSince}
 use Rattle.d3d_machine.proofs.Runs.{state_after_append, run_induction, calls_in_append}
 use Rattle.d3d_machine.proofs.Places.{place_in, one_more, kept_at, refused_threads, scripted, calls_by_no}
@@ -48,6 +49,12 @@ quiet_call w d u c t h =
     kept_at (λ p. p.waits) one_more (λ p. refl) (desk_or (refusal w d c) (effect w d u c) (after_refused d c)).threads u t
     ∙ either_waits (refusal w d c) (effect w d u c) (after_refused d c) t (place_of d t).waits h (ap (λ ps. (place_in ps t).waits) (refused_threads d c))
 
+-- a host signal begins no wait
+signalled_none : (w : World) (d : Desk) (u : ℕ) (f : FenceId) (v : ℕ) (t : ℕ) → (place_of d t).waits ≡ None →
+    (place_of (desk_after_call w d u (call.HostSignal f v)) t).waits ≡ None
+signalled_none w d u f v t h =
+    kept_at (λ p. p.waits) one_more (λ p. refl) (map (marked_place f.0 v) d.threads) u t ∙ waits_mapped f.0 v d.threads t ∙ ap (marked_option f.0 v) h
+
 own_call : (w : World) (d : Desk) (u : ThreadId) (c : Call) (r : Reply) (t : ℕ) → u.0 ≡ t → (place_of d t).waits ≡ None →
     ((place_of (desk_after_call w d u.0 c) t).waits ≡ None) ⊎ IsWaitOf t (event.Call u c r)
 own_call w d u (call.Recording l what) r t e h = inl (quiet_call w d u.0 (call.Recording l what) t refl ∙ h)
@@ -55,7 +62,9 @@ own_call w d u (call.Close l) r t e h = inl (quiet_call w d u.0 (call.Close l) t
 own_call w d u (call.Reset l a) r t e h = inl (quiet_call w d u.0 (call.Reset l a) t refl ∙ h)
 own_call w d u (call.Execute q ls) r t e h = inl (quiet_call w d u.0 (call.Execute q ls) t refl ∙ h)
 own_call w d u (call.Signal q f v) r t e h = inl (quiet_call w d u.0 (call.Signal q f v) t refl ∙ h)
+own_call w d u (call.HostSignal f v) r t e h = inl (signalled_none w d u.0 f v t h)
 own_call w d u (call.HostWait f v) r t e h = inr (record { thread = u; fence = f; value = v; reply = r; of_thread = e; is = refl })
+own_call w d u (call.Value f) r t e h = inl (quiet_call w d u.0 (call.Value f) t refl ∙ h)
 own_call w d u (call.Write b offset ws) r t e h = inl (quiet_call w d u.0 (call.Write b offset ws) t refl ∙ h)
 own_call w d u (call.Read b offset bytes) r t e h = inl (quiet_call w d u.0 (call.Read b offset bytes) t refl ∙ h)
 
@@ -76,7 +85,7 @@ pub none_step : (w : World) (s : State) (e : Event) (t : ℕ) → (place_of s.de
     ((place_of (after w s e).desk t).waits ≡ None) ⊎ IsWaitOf t e
 none_step w s (event.Call u c r) t h = elim (cases_eq u.0 t) [
   | inl e ↦ own_call w s.desk u c r t e h
-  | inr n ↦ inl (ap (λ p. p.waits) (other_call w s.desk u.0 c t n) ∙ h)
+  | inr n ↦ inl (other_call w s.desk u.0 c t n ∙ ap (option_map (λ x. marked_by x (update_of_call x.fence c))) h)
 ]
 none_step w s (event.Awake u) t h = inl (still_none s.desk.threads u.0 t h)
 none_step w s (event.Queue q) t h = inl (operation_none (dropped s.desk q.0) (head_of s.desk q.0) t h)

@@ -18,7 +18,7 @@ use Rattle.d3d_machine.specs.State.{Desk, State, value_of, is_recording, list_of
 use Rattle.d3d_machine.specs.Replies.{refusal}
 use Rattle.d3d_machine.specs.Effects.{effect, after_refused, failed_if, desk_or, dropped, desk_after_operation, head_of, desk_after_call, after, after_all}
 use Rattle.d3d_machine.specs.Play.{state_after}
-use Rattle.d3d_machine.specs.Fences.{update_of_operation, update_of, updates_from, applied_updates, is_met}
+use Rattle.d3d_machine.specs.Fences.{update_of_operation, update_of_call, update_of, updates_from, applied_updates, is_met}
 use Rattle.d3d_machine.specs.Marks.{current_update}
 use Rattle.d3d_machine.specs.Shape.{HasShape}
 use Rattle.d3d_machine.proofs.Shape.{after_has_shape, first_has_shape}
@@ -58,16 +58,6 @@ value_other v (x ∷ vs) zero (suc f) n = refl
 value_other v (x ∷ vs) (suc g) zero n = refl
 value_other v (x ∷ vs) (suc g) (suc f) n = value_other v vs g f (λ e. n (ap suc e))
 
-effect_fences : (w : World) (d : Desk) (u : ℕ) (c : Call) → (effect w d u c).fences ≡ d.fences
-effect_fences w d u (call.Recording l what) = refl
-effect_fences w d u (call.Close l) = refl
-effect_fences w d u (call.Reset l a) = refl
-effect_fences w d u (call.Execute q ls) = refl
-effect_fences w d u (call.Signal q f v) = refl
-effect_fences w d u (call.HostWait f v) = refl
-effect_fences w d u (call.Write b offset ws) = refl
-effect_fences w d u (call.Read b offset bytes) = refl
-
 either_fences : (r : Option Hresult) (good bad : Desk) (vs : List ℕ) → good.fences ≡ vs → bad.fences ≡ vs → (desk_or r good bad).fences ≡ vs
 either_fences None good bad vs g b = g
 either_fences (Some e) good bad vs g b = b
@@ -82,13 +72,15 @@ refused_fences d (call.Close l) = failed_fences (is_recording (list_of d.lists l
 refused_fences d (call.Reset l a) = refl
 refused_fences d (call.Execute q ls) = refl
 refused_fences d (call.Signal q f v) = refl
+refused_fences d (call.HostSignal f v) = refl
 refused_fences d (call.HostWait f v) = refl
+refused_fences d (call.Value f) = refl
 refused_fences d (call.Write b offset ws) = refl
 refused_fences d (call.Read b offset bytes) = refl
 
--- no call changes a fence
-pub called_fences : (w : World) (d : Desk) (u : ℕ) (c : Call) → (desk_after_call w d u c).fences ≡ d.fences
-called_fences w d u c = either_fences (refusal w d c) (effect w d u c) (after_refused d c) d.fences (effect_fences w d u c) (refused_fences d c)
+-- a call whose effect leaves the fences leaves them
+quiet_fences : (w : World) (d : Desk) (u : ℕ) (c : Call) → (effect w d u c).fences ≡ d.fences → (desk_after_call w d u c).fences ≡ d.fences
+quiet_fences w d u c quiet = either_fences (refusal w d c) (effect w d u c) (after_refused d c) d.fences quiet (refused_fences d c)
 
 -- a fence's value and its last update: none more, or one more that is the value
 FenceStep : ℕ → List ℕ → ℕ → Type 0
@@ -109,10 +101,28 @@ operation_step d None f h = inl (refl, refl)
 operation_step d (Some (operation.Execute commands)) f h = inl (refl, refl)
 operation_step d (Some (operation.Signal g v)) f h = signal_step d.fences g.0 f v h
 
+quiet_step : (w : World) (d : Desk) (u : ℕ) (c : Call) (f : ℕ) → (effect w d u c).fences ≡ d.fences → FenceStep (value_of d f) [] (value_of (desk_after_call w d u c) f)
+unfolding FenceStep
+quiet_step w d u c f quiet = inl (refl, ap (λ vs. value_in vs f) (quiet_fences w d u c quiet))
+
+-- a host signal gives its fence its value, and no other call changes a fence
+call_step : (w : World) (d : Desk) (u : ℕ) (c : Call) (f : ℕ) → f < length d.fences →
+    FenceStep (value_of d f) (update_of_call f c) (value_of (desk_after_call w d u c) f)
+call_step w d u (call.Recording l what) f h = quiet_step w d u (call.Recording l what) f refl
+call_step w d u (call.Close l) f h = quiet_step w d u (call.Close l) f refl
+call_step w d u (call.Reset l a) f h = quiet_step w d u (call.Reset l a) f refl
+call_step w d u (call.Execute q ls) f h = quiet_step w d u (call.Execute q ls) f refl
+call_step w d u (call.Signal q g v) f h = quiet_step w d u (call.Signal q g v) f refl
+call_step w d u (call.HostSignal g v) f h = signal_step d.fences g.0 f v h
+call_step w d u (call.HostWait g v) f h = quiet_step w d u (call.HostWait g v) f refl
+call_step w d u (call.Value g) f h = quiet_step w d u (call.Value g) f refl
+call_step w d u (call.Write b offset ws) f h = quiet_step w d u (call.Write b offset ws) f refl
+call_step w d u (call.Read b offset bytes) f h = quiet_step w d u (call.Read b offset bytes) f refl
+
 fence_step : (w : World) (s : State) (e : Event) (f : ℕ) → f < length s.desk.fences →
     FenceStep (value_of s.desk f) (update_of s.desk f e) (value_of (after w s e).desk f)
 unfolding FenceStep
-fence_step w s (event.Call u c r) f h = inl (refl, ap (λ vs. value_in vs f) (called_fences w s.desk u.0 c))
+fence_step w s (event.Call u c r) f h = call_step w s.desk u.0 c f h
 fence_step w s (event.Awake u) f h = inl (refl, refl)
 fence_step w s (event.Queue q) f h = operation_step (dropped s.desk q.0) (head_of s.desk q.0) f h
 

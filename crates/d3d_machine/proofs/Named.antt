@@ -3,7 +3,7 @@ use Rattle.std.proofs.Common.{ℕ, zero, suc, ◌≡◌, ◌&&◌, refl, Bool, t
 use Rattle.std.specs.List.{list_all}
 use Rattle.d3d_machine.specs.declared.world.World.{World}
 use Rattle.d3d_machine.specs.declared.calls.Call.{Call}
-use Rattle.d3d_machine.specs.World.{is_named, IsWorld}
+use Rattle.d3d_machine.specs.World.{is_named, are_named, IsWorld}
 use Rattle.d3d_machine.specs.State.{Desk, next_call, place_of}
 
 pub and_left : (a b : Bool) → (a && b) ≡ true → a ≡ true
@@ -26,6 +26,9 @@ all_in_scripts p [] u i c h e = cc
 all_in_scripts p (x ∷ xs) zero i c h e = all_at p x i c (and_left (list_all p x) (list_all (λ script. list_all p script) xs) h) e
 all_in_scripts p (x ∷ xs) (suc u) i c h e = all_in_scripts p xs u i c (and_right (list_all p x) (list_all (λ script. list_all p script) xs) h) e
 
--- a thread's next call names objects of the world
+-- a thread's next call names objects of the world, where all calls do
+pub next_named : (w : World) (d : Desk) (t : ℕ) (c : Call) → are_named w ≡ true → next_call w d t ≡ Some c → is_named w c ≡ true
+next_named w d t c named e = all_in_scripts (is_named w) w.scripts t (place_of d t).made c named e
+
 pub next_is_named : (w : World) (d : Desk) (t : ℕ) (c : Call) → IsWorld w → next_call w d t ≡ Some c → is_named w c ≡ true
-next_is_named w d t c world e = all_in_scripts (is_named w) w.scripts t (place_of d t).made c world.named e
+next_is_named w d t c world e = next_named w d t c world.named e

@@ -1,5 +1,5 @@
 -- What a queue has called and not completed, by counts along a history.
-use Rattle.std.proofs.Common.{ℕ, zero, suc, ◌≡◌, ◌≢◌, ◌<◌, ◌≤◌, ◌+◌, ◌-◌, ◌∙◌, sym, ap, subst, refl, arith, List, [], ◌∷◌, ◌++◌, length, drop, take, map, Some, None, Option, Bool, true, false, append_assoc, length-append, ◌⊎◌, inl, inr}
+use Rattle.std.proofs.Common.{ℕ, ◌≡◌, ◌≢◌, ◌≤◌, ◌+◌, ◌∙◌, sym, ap, subst, refl, arith, List, [], ◌∷◌, ◌++◌, length, drop, map, Some, None, Option, Bool, true, false, append_assoc, length-append, inl, inr}
 use Rattle.std.proofs.lemmas.List.{drop-append-le, append-nil, drop-drop, length-drop}
 use Rattle.std.proofs.lemmas.Option.{slice_get-map}
 use borrow.Author.Tests.{ltb-true}
@@ -21,7 +21,7 @@ use Rattle.d3d_machine.specs.declared.events.Event.{Event}
 use Rattle.d3d_machine.specs.declared.events.Event.TheVariants as event
 use Rattle.d3d_machine.specs.State.{Desk, State, first_state, called_of, list_of, is_recording}
 use Rattle.d3d_machine.specs.Replies.{refusal}
-use Rattle.d3d_machine.specs.Effects.{after, after_all, desk_after, desk_after_call, desk_after_operation, counted, desk_or, effect, after_refused, failed_if, pushed, dropped, head_of, gathered, takes_value}
+use Rattle.d3d_machine.specs.Effects.{after, after_all, desk_after, desk_after_operation, counted, desk_or, effect, after_refused, failed_if, pushed, dropped, head_of, gathered}
 use Rattle.d3d_machine.specs.Play.{May, Plays, state_after}
 use Rattle.d3d_machine.specs.Operations.{operation_of, unless_refused, called_by, operations_from, operations, completions_by, counter}
 
@@ -72,7 +72,9 @@ refused_keeps d (call.Close l) = failed_keeps (is_recording (list_of d.lists l.0
 refused_keeps d (call.Reset l a) = refl
 refused_keeps d (call.Execute p ls) = refl
 refused_keeps d (call.Signal p f v) = refl
+refused_keeps d (call.HostSignal f v) = refl
 refused_keeps d (call.HostWait f v) = refl
+refused_keeps d (call.Value f) = refl
 refused_keeps d (call.Write b offset ws) = refl
 refused_keeps d (call.Read b offset bytes) = refl
 
@@ -83,7 +85,9 @@ effect_step w d t q (call.Close l) os is = more_by_none d q os is
 effect_step w d t q (call.Reset l a) os is = more_by_none d q os is
 effect_step w d t q (call.Execute p ls) os is = push_step d p.0 q (operation.Execute (gathered d.lists (map (λ l. l.0) ls))) os is
 effect_step w d t q (call.Signal p f v) os is = push_step d p.0 q (operation.Signal f v) os is
+effect_step w d t q (call.HostSignal f v) os is = more_by_none d q os is
 effect_step w d t q (call.HostWait f v) os is = more_by_none d q os is
+effect_step w d t q (call.Value f) os is = more_by_none d q os is
 effect_step w d t q (call.Write b offset ws) os is = more_by_none d q os is
 effect_step w d t q (call.Read b offset bytes) os is = more_by_none d q os is
 

@@ -1,5 +1,6 @@
 -- The place of a thread after an event, and its calls in a run.
 use Rattle.std.proofs.Common.{ℕ, zero, suc, ◌≡◌, ◌≢◌, ◌<◌, ◌+◌, ◌==◌, refl, sym, ap, ◌∙◌, subst, Bool, true, false, List, [], ◌∷◌, ◌++◌, map, take, length, slice_get, length-append, append-nil, add-one, add-zero, ◌⊎◌, inl, inr, Option, Some, None, arith}
+use Rattle.std.proofs.Math.ListN.{length-map}
 use Rattle.std.proofs.lemmas.Bool.{cases_eq}
 use Rattle.std.proofs.lemmas.Bool.Decides.{nat_tests}
 use Rattle.dx_base.specs.Lists.{changed_at}
@@ -65,7 +66,9 @@ made_effect w d u (call.Close l) t = refl
 made_effect w d u (call.Reset l a) t = refl
 made_effect w d u (call.Execute q ls) t = refl
 made_effect w d u (call.Signal q f v) t = refl
+made_effect w d u (call.HostSignal f v) t = kept_map (λ p. p.made) (marked_place f.0 v) (λ p. refl) d.threads t
 made_effect w d u (call.HostWait f v) t = kept_at (λ p. p.made) (begins_wait (value_of d f.0) f.0 v) (λ p. refl) d.threads u t
+made_effect w d u (call.Value f) t = refl
 made_effect w d u (call.Write b offset ws) t = refl
 made_effect w d u (call.Read b offset bytes) t = refl
 
@@ -80,7 +83,9 @@ refused_threads d (call.Close l) = failed_threads (is_recording (list_of d.lists
 refused_threads d (call.Reset l a) = refl
 refused_threads d (call.Execute q ls) = refl
 refused_threads d (call.Signal q f v) = refl
+refused_threads d (call.HostSignal f v) = refl
 refused_threads d (call.HostWait f v) = refl
+refused_threads d (call.Value f) = refl
 refused_threads d (call.Write b offset ws) = refl
 refused_threads d (call.Read b offset bytes) = refl
 
@@ -89,7 +94,7 @@ made_either None good bad t n g b = g
 made_either (Some e) good bad t n g b = b
 
 -- a call's effect and its refusal leave the count of calls
-made_called : (w : World) (d : Desk) (u : ℕ) (c : Call) (t : ℕ) →
+pub made_called : (w : World) (d : Desk) (u : ℕ) (c : Call) (t : ℕ) →
     (place_of (desk_or (refusal w d c) (effect w d u c) (after_refused d c)) t).made ≡ (place_of d t).made
 made_called w d u c t =
     made_either (refusal w d c) (effect w d u c) (after_refused d c) t (place_of d t).made
@@ -118,7 +123,9 @@ length_effect w d u (call.Close l) = refl
 length_effect w d u (call.Reset l a) = refl
 length_effect w d u (call.Execute q ls) = refl
 length_effect w d u (call.Signal q f v) = refl
+length_effect w d u (call.HostSignal f v) = length-map d.threads (marked_place f.0 v)
 length_effect w d u (call.HostWait f v) = length_changed (begins_wait (value_of d f.0) f.0 v) d.threads u
+length_effect w d u (call.Value f) = refl
 length_effect w d u (call.Write b offset ws) = refl
 length_effect w d u (call.Read b offset bytes) = refl
 

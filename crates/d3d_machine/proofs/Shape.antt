@@ -1,28 +1,23 @@
 -- Events keep the shape of a state, and lists short.
-use Rattle.std.proofs.Common.{ℕ, zero, suc, ◌≡◌, ◌≢◌, ◌<◌, ◌≤◌, ◌+◌, ◌*◌, ◌/◌, nat_le, refl, sym, ap, ◌∙◌, subst, Bool, true, false, cond, List, [], ◌∷◌, ◌++◌, map, take, drop, length, slice_get, length-append, append_assoc, append-nil, add-one, Option, Some, None, arith}
+use Rattle.std.proofs.Common.{ℕ, ◌≡◌, ◌+◌, ◌/◌, refl, ◌∙◌, Bool, true, false, List, [], ◌∷◌, ◌++◌, map, drop, length, Option, Some, None}
 use Rattle.std.proofs.Math.ListN.{length-map}
-use Rattle.std.proofs.lemmas.Bool.{cases_eq}
-use Rattle.std.proofs.lemmas.Bool.Decides.{nat_tests}
-use Rattle.dx_base.specs.Lists.{changed_at}
 use Rattle.dx_base.proofs.Lists.{length_changed}
 use Rattle.dx_base.specs.declared.hresult.Hresult.{Hresult}
-use Rattle.dx_base.specs.declared.hresult.Hresult.TheVariants.{Fail}
 use Rattle.d3d_machine.specs.declared.world.World.{World}
 use Rattle.d3d_machine.specs.declared.calls.Call.{Call}
 use Rattle.d3d_machine.specs.declared.calls.Call.TheVariants as call
 use Rattle.d3d_machine.specs.declared.calls.Record.{Record}
 use Rattle.d3d_machine.specs.declared.calls.Record.TheVariants.{Copy}
-use Rattle.d3d_machine.specs.declared.events.Listed.{Listed}
 use Rattle.d3d_machine.specs.declared.events.Command.{Command}
 use Rattle.d3d_machine.specs.declared.events.Operation.{Operation}
 use Rattle.d3d_machine.specs.declared.events.Operation.TheVariants as operation
 use Rattle.d3d_machine.specs.declared.events.Event.{Event}
 use Rattle.d3d_machine.specs.declared.events.Event.TheVariants as event
-use Rattle.d3d_machine.specs.State.{Desk, State, Place, list_of, called_of, value_of, words_at, is_recording, first_state, first_desk, opening_place, declared_list, zeros}
-use Rattle.d3d_machine.specs.Replies.{refusal, refuse_if, record_error, argument_error}
+use Rattle.d3d_machine.specs.State.{Desk, State, list_of, value_of, words_at, is_recording, first_state, opening_place, declared_list, zeros}
+use Rattle.d3d_machine.specs.Replies.{refusal}
 use Rattle.dx_base.specs.Lists.{put, range_of}
-use Rattle.d3d_machine.specs.Effects.{effect, after_refused, failed_if, desk_or, counted, desk_after_call, takes_value, marked_place, dropped, desk_after_operation, head_of, woken, desk_after, written, memory_or, memory_after_operation, memory_after, after_record, after_commands, after, after_all, recorded, recorded_or, kept_or, closed, failed, begun, gathered, begins_wait}
-use Rattle.d3d_machine.specs.Shape.{HasLengths, HasShape, AreShort}
+use Rattle.d3d_machine.specs.Effects.{effect, after_refused, failed_if, desk_or, counted, takes_value, marked_place, dropped, desk_after_operation, head_of, woken, desk_after, written, memory_or, memory_after_operation, memory_after, after_record, after_commands, after, after_all, recorded, closed, failed, begun, gathered, begins_wait}
+use Rattle.d3d_machine.specs.Shape.{HasLengths, HasShape}
 
 pub first_has_shape : (w : World) → HasShape w (first_state w)
 first_has_shape w = record {
@@ -33,6 +28,14 @@ first_has_shape w = record {
     threads = length-map w.scripts (λ _. opening_place);
   };
   memory = length-map w.resources zeros;
+}
+
+takes_keeps : (w : World) (f v : ℕ) (d : Desk) → HasLengths w d → HasLengths w (takes_value f v d)
+takes_keeps w f v d h = record {
+  fences = length_changed (λ _. v) d.fences f ∙ h.fences;
+  called = h.called;
+  lists = h.lists;
+  threads = length-map d.threads (marked_place f v) ∙ h.threads;
 }
 
 effect_keeps : (w : World) (d : Desk) (t : ℕ) (c : Call) → HasLengths w d → HasLengths w (effect w d t c)
@@ -51,12 +54,14 @@ effect_keeps w d t (call.Signal q f v) h = record {
   lists = h.lists;
   threads = h.threads;
 }
+effect_keeps w d t (call.HostSignal f v) h = takes_keeps w f.0 v d h
 effect_keeps w d t (call.HostWait f v) h = record {
   fences = h.fences;
   called = h.called;
   lists = h.lists;
   threads = length_changed (begins_wait (value_of d f.0) f.0 v) d.threads t ∙ h.threads;
 }
+effect_keeps w d t (call.Value f) h = h
 effect_keeps w d t (call.Write b offset ws) h = h
 effect_keeps w d t (call.Read b offset bytes) h = h
 
@@ -70,7 +75,9 @@ refused_keeps w d (call.Close l) h = failed_keeps w (is_recording (list_of d.lis
 refused_keeps w d (call.Reset l a) h = h
 refused_keeps w d (call.Execute q ls) h = h
 refused_keeps w d (call.Signal q f v) h = h
+refused_keeps w d (call.HostSignal f v) h = h
 refused_keeps w d (call.HostWait f v) h = h
+refused_keeps w d (call.Value f) h = h
 refused_keeps w d (call.Write b offset ws) h = h
 refused_keeps w d (call.Read b offset bytes) h = h
 
@@ -81,21 +88,16 @@ either_keeps w (Some e) good bad g b = b
 counted_keeps : (w : World) (t : ℕ) (d : Desk) → HasLengths w d → HasLengths w (counted t d)
 counted_keeps w t d h = record { fences = h.fences; called = h.called; lists = h.lists; threads = length_changed (λ p. record p { made = p.made + 1 }) d.threads t ∙ h.threads }
 
-woken_keeps : (w : World) (t : ℕ) (d : Desk) → HasLengths w d → HasLengths w (woken t d)
+pub woken_keeps : (w : World) (t : ℕ) (d : Desk) → HasLengths w d → HasLengths w (woken t d)
 woken_keeps w t d h = record { fences = h.fences; called = h.called; lists = h.lists; threads = length_changed (λ p. record p { waits = None }) d.threads t ∙ h.threads }
 
 dropped_keeps : (w : World) (d : Desk) (q : ℕ) → HasLengths w d → HasLengths w (dropped d q)
 dropped_keeps w d q h = record { fences = h.fences; called = length_changed (drop 1) d.called q ∙ h.called; lists = h.lists; threads = h.threads }
 
-operation_keeps : (w : World) (d : Desk) (o : Option Operation) → HasLengths w d → HasLengths w (desk_after_operation d o)
+pub operation_keeps : (w : World) (d : Desk) (o : Option Operation) → HasLengths w d → HasLengths w (desk_after_operation d o)
 operation_keeps w d None h = h
 operation_keeps w d (Some (operation.Execute commands)) h = h
-operation_keeps w d (Some (operation.Signal f v)) h = record {
-  fences = length_changed (λ _. v) d.fences f.0 ∙ h.fences;
-  called = h.called;
-  lists = h.lists;
-  threads = length-map d.threads (marked_place f.0 v) ∙ h.threads;
-}
+operation_keeps w d (Some (operation.Signal f v)) h = takes_keeps w f.0 v d h
 
 desk_keeps : (w : World) (d : Desk) (e : Event) → HasLengths w d → HasLengths w (desk_after w d e)
 desk_keeps w d (event.Call t c r) h =
@@ -117,7 +119,9 @@ written_length (call.Close l) m = refl
 written_length (call.Reset l a) m = refl
 written_length (call.Execute q ls) m = refl
 written_length (call.Signal q f v) m = refl
+written_length (call.HostSignal f v) m = refl
 written_length (call.HostWait f v) m = refl
+written_length (call.Value f) m = refl
 written_length (call.Write b offset ws) m = length_changed (put (offset / 4) ws) m b.0
 written_length (call.Read b offset bytes) m = refl
 
@@ -125,7 +129,7 @@ either_length : (r : Option Hresult) (good bad : List (List ℕ)) → length goo
 either_length None good bad h = h
 either_length (Some e) good bad h = refl
 
-operation_length : (m : List (List ℕ)) (o : Option Operation) → length (memory_after_operation m o) ≡ length m
+pub operation_length : (m : List (List ℕ)) (o : Option Operation) → length (memory_after_operation m o) ≡ length m
 operation_length m None = refl
 operation_length m (Some (operation.Execute commands)) = commands_length commands m
 operation_length m (Some (operation.Signal f v)) = refl

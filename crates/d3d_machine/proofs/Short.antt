@@ -56,7 +56,9 @@ effect_short w d t (call.Close i) h l = changed_short closed (λ x s. s) d.lists
 effect_short w d t (call.Reset i a) h l = changed_short (λ _. begun a.0) (λ x s. lit≤ tt) d.lists i.0 l h
 effect_short w d t (call.Execute q ls) h l = h l
 effect_short w d t (call.Signal q f v) h l = h l
+effect_short w d t (call.HostSignal f v) h l = h l
 effect_short w d t (call.HostWait f v) h l = h l
+effect_short w d t (call.Value f) h l = h l
 effect_short w d t (call.Write b offset ws) h l = h l
 effect_short w d t (call.Read b offset bytes) h l = h l
 
@@ -70,7 +72,9 @@ refused_short d (call.Close i) h l = failed_short (is_recording (list_of d.lists
 refused_short d (call.Reset i a) h l = h l
 refused_short d (call.Execute q ls) h l = h l
 refused_short d (call.Signal q f v) h l = h l
+refused_short d (call.HostSignal f v) h l = h l
 refused_short d (call.HostWait f v) h l = h l
+refused_short d (call.Value f) h l = h l
 refused_short d (call.Write b offset ws) h l = h l
 refused_short d (call.Read b offset bytes) h l = h l
 

@@ -1,5 +1,5 @@
 -- The number of words of each resource never changes.
-use Rattle.std.proofs.Common.{ℕ, zero, suc, ◌≡◌, ◌∙◌, sym, ap, refl, List, [], ◌∷◌, ◌++◌, length, map, Some, None, Option, ◌/◌}
+use Rattle.std.proofs.Common.{ℕ, zero, suc, ◌≡◌, ◌∙◌, ap, refl, List, [], ◌∷◌, length, map, Some, None, Option, ◌/◌}
 use Rattle.dx_base.specs.Lists.{changed_at, put, range_of}
 use Rattle.dx_base.specs.declared.hresult.Hresult.{Hresult}
 use Rattle.dx_base.proofs.Lists.{map_changed, length_put}
@@ -40,7 +40,9 @@ sizes_written (call.Close l) m = refl
 sizes_written (call.Reset l a) m = refl
 sizes_written (call.Execute q ls) m = refl
 sizes_written (call.Signal q f v) m = refl
+sizes_written (call.HostSignal f v) m = refl
 sizes_written (call.HostWait f v) m = refl
+sizes_written (call.Value f) m = refl
 sizes_written (call.Write b offset ws) m = sizes_put (offset / 4) ws b.0 m
 sizes_written (call.Read b offset n) m = refl
 

@@ -1,5 +1,6 @@
 -- The wait of a thread after an event, and its mark along a run.
 use Rattle.std.proofs.Common.{ℕ, zero, suc, ◌≡◌, ◌≢◌, ◌<◌, ◌≤◌, ◌==◌, ◌||◌, nat_le, refl, sym, ap, ◌∙◌, subst, Bool, true, false, if◌then◌else◌, inl, inr, List, [], ◌∷◌, ◌++◌, map, length, append-nil, Option, Some, None, arith}
+use Rattle.std.specs.Option.{option_map}
 use Rattle.std.proofs.lemmas.Bool.{cases_eq}
 use Rattle.std.proofs.lemmas.Bool.Decides.{nat_tests}
 use Rattle.dx_base.specs.Lists.{changed_at}
@@ -18,7 +19,7 @@ use Rattle.d3d_machine.specs.State.{Waiting, Desk, State, Place, place_of, value
 use Rattle.d3d_machine.specs.Replies.{refusal}
 use Rattle.d3d_machine.specs.Effects.{effect, after_refused, desk_or, marked_wait, marked_option, marked_place, dropped, desk_after_operation, head_of, desk_after_call, after, begins_wait}
 use Rattle.d3d_machine.specs.Play.{May, SameButWords, state_after}
-use Rattle.d3d_machine.specs.Fences.{update_of_operation, update_of, applied_updates, is_met}
+use Rattle.d3d_machine.specs.Fences.{update_of_operation, update_of_call, update_of, applied_updates, is_met}
 use Rattle.d3d_machine.specs.Marks.{waiting_at, marked_by, current_update, is_awake_of}
 use Rattle.d3d_machine.specs.Shape.{HasShape}
 use Rattle.d3d_machine.proofs.Shape.{run_has_shape}
@@ -32,27 +33,6 @@ or_false false = refl
 
 marked_by_none : (x : Waiting) → marked_by x [] ≡ x
 marked_by_none x = ap (λ b. record { fence = x.fence; value = x.value; marked = b }) (or_false x.marked)
-
-effect_other : (w : World) (d : Desk) (u : ℕ) (c : Call) (t : ℕ) → u ≢ t → place_of (effect w d u c) t ≡ place_of d t
-effect_other w d u (call.Recording l what) t n = refl
-effect_other w d u (call.Close l) t n = refl
-effect_other w d u (call.Reset l a) t n = refl
-effect_other w d u (call.Execute q ls) t n = refl
-effect_other w d u (call.Signal q f v) t n = refl
-effect_other w d u (call.HostWait f v) t n = changed_other (begins_wait (value_of d f.0) f.0 v) d.threads u t n
-effect_other w d u (call.Write b offset ws) t n = refl
-effect_other w d u (call.Read b offset bytes) t n = refl
-
-either_place : (r : Option Hresult) (good bad : Desk) (t : ℕ) (p : Place) → place_of good t ≡ p → place_of bad t ≡ p → place_of (desk_or r good bad) t ≡ p
-either_place None good bad t p g b = g
-either_place (Some e) good bad t p g b = b
-
--- a call leaves the place of another thread
-pub other_call : (w : World) (d : Desk) (u : ℕ) (c : Call) (t : ℕ) → u ≢ t → place_of (desk_after_call w d u c) t ≡ place_of d t
-other_call w d u c t n =
-    changed_other one_more (desk_or (refusal w d c) (effect w d u c) (after_refused d c)).threads u t n
-    ∙ either_place (refusal w d c) (effect w d u c) (after_refused d c) t (place_of d t)
-    (effect_other w d u c t n) (ap (λ ps. place_in ps t) (refused_threads d c))
 
 pub waits_mapped : (f v : ℕ) (ps : List Place) (t : ℕ) → (place_in (map (marked_place f v) ps) t).waits ≡ marked_option f v (place_in ps t).waits
 waits_mapped f v [] t = refl
@@ -70,6 +50,42 @@ signal_marks x g v = elim (cases_eq g x.fence) [
       rw (no, nor) refl
 ]
 
+signal_marks_all : (o : Option Waiting) (g v : ℕ) → marked_option g v o ≡ option_map (λ x. marked_by x (if (g == x.fence) then v ∷ [] else [])) o
+signal_marks_all None g v = refl
+signal_marks_all (Some x) g v = ap (λ y. Some y) (signal_marks x g v)
+
+nothing_marks : (o : Option Waiting) → o ≡ option_map (λ x. marked_by x []) o
+nothing_marks None = refl
+nothing_marks (Some x) = ap (λ y. Some y) (sym (marked_by_none x))
+
+either_place : (r : Option Hresult) (good bad : Desk) (t : ℕ) (p : Place) → place_of good t ≡ p → place_of bad t ≡ p → place_of (desk_or r good bad) t ≡ p
+either_place None good bad t p g b = g
+either_place (Some e) good bad t p g b = b
+
+-- a call whose effect leaves the place of another thread leaves its wait
+quiet_other : (w : World) (d : Desk) (u : ℕ) (c : Call) (t : ℕ) → u ≢ t → place_of (effect w d u c) t ≡ place_of d t →
+    (place_of (desk_after_call w d u c) t).waits ≡ option_map (λ x. marked_by x []) (place_of d t).waits
+quiet_other w d u c t n quiet =
+    ap (λ p. p.waits) (changed_other one_more (desk_or (refusal w d c) (effect w d u c) (after_refused d c)).threads u t n
+    ∙ either_place (refusal w d c) (effect w d u c) (after_refused d c) t (place_of d t) quiet (ap (λ ps. place_in ps t) (refused_threads d c)))
+    ∙ nothing_marks (place_of d t).waits
+
+-- a call marks the wait of another thread by its update, where it is one
+pub other_call : (w : World) (d : Desk) (u : ℕ) (c : Call) (t : ℕ) → u ≢ t →
+    (place_of (desk_after_call w d u c) t).waits ≡ option_map (λ x. marked_by x (update_of_call x.fence c)) (place_of d t).waits
+other_call w d u (call.Recording l what) t n = quiet_other w d u (call.Recording l what) t n refl
+other_call w d u (call.Close l) t n = quiet_other w d u (call.Close l) t n refl
+other_call w d u (call.Reset l a) t n = quiet_other w d u (call.Reset l a) t n refl
+other_call w d u (call.Execute q ls) t n = quiet_other w d u (call.Execute q ls) t n refl
+other_call w d u (call.Signal q f v) t n = quiet_other w d u (call.Signal q f v) t n refl
+other_call w d u (call.HostSignal f v) t n =
+    ap (λ p. p.waits) (changed_other one_more (map (marked_place f.0 v) d.threads) u t n)
+    ∙ waits_mapped f.0 v d.threads t ∙ signal_marks_all (place_of d t).waits f.0 v
+other_call w d u (call.HostWait f v) t n = quiet_other w d u (call.HostWait f v) t n (changed_other (begins_wait (value_of d f.0) f.0 v) d.threads u t n)
+other_call w d u (call.Value f) t n = quiet_other w d u (call.Value f) t n refl
+other_call w d u (call.Write b offset ws) t n = quiet_other w d u (call.Write b offset ws) t n refl
+other_call w d u (call.Read b offset bytes) t n = quiet_other w d u (call.Read b offset bytes) t n refl
+
 operation_marks : (d : Desk) (o : Option Operation) (t : ℕ) (x : Waiting) → (place_of d t).waits ≡ Some x →
     (place_of (desk_after_operation d o) t).waits ≡ Some (marked_by x (update_of_operation x.fence o))
 operation_marks d None t x h = h ∙ ap (λ y. Some y) (sym (marked_by_none x))
@@ -82,7 +98,7 @@ pub waits_on : (Same : Reply → Reply → Type 0) (w : World) (s : State) (e : 
     May Same w s e → is_awake_of t e ≡ false → (place_of (after w s e).desk t).waits ≡ Some (marked_by x (update_of s.desk x.fence e))
 waits_on Same w s (event.Call u c r) t x h m sleeps =
     let apart : u.0 ≢ t = λ e. let none : (place_of s.desk t).waits ≡ None = subst (λ k. (place_of s.desk k).waits ≡ None) e m.0 in cc in
-    ap (λ p. p.waits) (other_call w s.desk u.0 c t apart) ∙ h ∙ ap (λ y. Some y) (sym (marked_by_none x))
+    other_call w s.desk u.0 c t apart ∙ ap (option_map (λ y. marked_by y (update_of_call y.fence c))) h
 waits_on Same w s (event.Awake u) t x h m sleeps =
     let apart : u.0 ≢ t = grind (arith, nat_tests) in
     ap (λ p. p.waits) (changed_other (λ p. record p { waits = None }) s.desk.threads u.0 t apart) ∙ h ∙ ap (λ y. Some y) (sym (marked_by_none x))

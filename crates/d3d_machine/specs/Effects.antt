@@ -1,6 +1,5 @@
 -- The state after an event. Every event has an effect here; whether it may come stands apart.
-use Rattle.std.specs.Prelude.{ℕ, ◌≡◌, ◌+◌, ◌*◌, ◌/◌, ◌==◌, ◌&&◌, ◌||◌, not, nat_lt, nat_le, List, [], ◌∷◌, ◌++◌, length, map, slice_get, take, drop, Option, Some, None, Bool, true, false, if◌then◌else◌}
-use Rattle.std.specs.List.{flat_map}
+use Rattle.std.specs.Prelude.{ℕ, ◌+◌, ◌/◌, ◌==◌, ◌&&◌, ◌||◌, nat_le, List, [], ◌∷◌, ◌++◌, map, slice_get, drop, Option, Some, None, Bool, true, false}
 use Rattle.dx_base.specs.Lists.{changed_at, put, range_of}
 use Rattle.dx_base.specs.declared.hresult.Hresult.{Hresult}
 use Rattle.d3d_machine.specs.declared.world.World.{World}
@@ -63,44 +62,6 @@ pushed d q o = record d { called = changed_at (λ os. os ++ o ∷ []) q d.called
 abbrev pub begins_wait : ℕ → ℕ → ℕ → Place → Place
 begins_wait now f v p = record p { waits = Some (record { fence = f; value = v; marked = nat_le v now }) }
 
--- the desk after a call that is not refused, but for the count of the thread's calls
-abbrev pub effect : World → Desk → ℕ → Call → Desk
-effect w d t (call.Recording l what) = record d { lists = changed_at (recorded w what) l.0 d.lists }
-effect w d t (call.Close l) = record d { lists = changed_at closed l.0 d.lists }
-effect w d t (call.Reset l a) = record d { lists = changed_at (λ _. begun a.0) l.0 d.lists }
-effect w d t (call.Execute q ls) = pushed d q.0 (operation.Execute (gathered d.lists (map (λ l. l.0) ls)))
-effect w d t (call.Signal q f v) = pushed d q.0 (operation.Signal f v)
-effect w d t (call.HostWait f v) = record d { threads = changed_at (begins_wait (value_of d f.0) f.0 v) t d.threads }
-effect w d t (call.Write b offset ws) = d
-effect w d t (call.Read b offset bytes) = d
-
-abbrev pub failed_if : Bool → ℕ → Desk → Desk
-failed_if true l d = record d { lists = changed_at failed l d.lists }
-failed_if false l d = d
-
--- the desk after a refused call: only a list whose close is refused for its error changes
-abbrev pub after_refused : Desk → Call → Desk
-after_refused d (call.Recording l what) = d
-after_refused d (call.Close l) = failed_if (is_recording (list_of d.lists l.0)) l.0 d
-after_refused d (call.Reset l a) = d
-after_refused d (call.Execute q ls) = d
-after_refused d (call.Signal q f v) = d
-after_refused d (call.HostWait f v) = d
-after_refused d (call.Write b offset ws) = d
-after_refused d (call.Read b offset bytes) = d
-
-abbrev pub desk_or : Option Hresult → Desk → Desk → Desk
-desk_or None good bad = good
-desk_or (Some e) good bad = bad
-
--- the thread has made one more call
-abbrev pub counted : ℕ → Desk → Desk
-counted t d = record d { threads = changed_at (λ p. record p { made = p.made + 1 }) t d.threads }
-
--- the desk after a call
-abbrev pub desk_after_call : World → Desk → ℕ → Call → Desk
-desk_after_call w d t c = counted t (desk_or (refusal w d c) (effect w d t c) (after_refused d c))
-
 -- a wait on that fence is met from the first moment at which the fence's value suffices
 abbrev pub marked_wait : ℕ → ℕ → Waiting → Waiting
 marked_wait f v x = record x { marked = x.marked || ((x.fence == f) && nat_le x.value v) }
@@ -115,6 +76,48 @@ marked_place f v p = record p { waits = marked_option f v p.waits }
 -- a fence takes a value: it may fall, and waits that it meets are marked for good
 abbrev pub takes_value : ℕ → ℕ → Desk → Desk
 takes_value f v d = record d { fences = changed_at (λ _. v) f d.fences; threads = map (marked_place f v) d.threads }
+
+-- the desk after a call that is not refused, but for the count of the thread's calls
+abbrev pub effect : World → Desk → ℕ → Call → Desk
+effect w d t (call.Recording l what) = record d { lists = changed_at (recorded w what) l.0 d.lists }
+effect w d t (call.Close l) = record d { lists = changed_at closed l.0 d.lists }
+effect w d t (call.Reset l a) = record d { lists = changed_at (λ _. begun a.0) l.0 d.lists }
+effect w d t (call.Execute q ls) = pushed d q.0 (operation.Execute (gathered d.lists (map (λ l. l.0) ls)))
+effect w d t (call.Signal q f v) = pushed d q.0 (operation.Signal f v)
+effect w d t (call.HostSignal f v) = takes_value f.0 v d
+effect w d t (call.HostWait f v) = record d { threads = changed_at (begins_wait (value_of d f.0) f.0 v) t d.threads }
+effect w d t (call.Value f) = d
+effect w d t (call.Write b offset ws) = d
+effect w d t (call.Read b offset bytes) = d
+
+abbrev pub failed_if : Bool → ℕ → Desk → Desk
+failed_if true l d = record d { lists = changed_at failed l d.lists }
+failed_if false l d = d
+
+-- the desk after a refused call: only a list whose close is refused for its error changes
+abbrev pub after_refused : Desk → Call → Desk
+after_refused d (call.Recording l what) = d
+after_refused d (call.Close l) = failed_if (is_recording (list_of d.lists l.0)) l.0 d
+after_refused d (call.Reset l a) = d
+after_refused d (call.Execute q ls) = d
+after_refused d (call.Signal q f v) = d
+after_refused d (call.HostSignal f v) = d
+after_refused d (call.HostWait f v) = d
+after_refused d (call.Value f) = d
+after_refused d (call.Write b offset ws) = d
+after_refused d (call.Read b offset bytes) = d
+
+abbrev pub desk_or : Option Hresult → Desk → Desk → Desk
+desk_or None good bad = good
+desk_or (Some e) good bad = bad
+
+-- the thread has made one more call
+abbrev pub counted : ℕ → Desk → Desk
+counted t d = record d { threads = changed_at (λ p. record p { made = p.made + 1 }) t d.threads }
+
+-- the desk after a call
+abbrev pub desk_after_call : World → Desk → ℕ → Call → Desk
+desk_after_call w d t c = counted t (desk_or (refusal w d c) (effect w d t c) (after_refused d c))
 
 -- the oldest operation of a queue has left it
 abbrev pub dropped : Desk → ℕ → Desk
@@ -145,7 +148,9 @@ written (call.Close l) m = m
 written (call.Reset l a) m = m
 written (call.Execute q ls) m = m
 written (call.Signal q f v) m = m
+written (call.HostSignal f v) m = m
 written (call.HostWait f v) m = m
+written (call.Value f) m = m
 written (call.Write b offset ws) m = changed_at (put (offset / 4) ws) b.0 m
 written (call.Read b offset bytes) m = m
 

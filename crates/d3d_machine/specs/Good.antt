@@ -1,5 +1,5 @@
 -- Recorded commands are good: a bad one is never kept.
-use Rattle.std.specs.Prelude.{List, Bool, true}
+use Rattle.std.specs.Prelude.{Bool, true}
 use Rattle.std.specs.List.{list_all}
 use Rattle.d3d_machine.specs.declared.world.World.{World}
 use Rattle.d3d_machine.specs.declared.calls.Record.{Record}

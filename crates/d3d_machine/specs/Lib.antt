@@ -11,3 +11,6 @@ pub mod Checks
 pub mod Shape
 pub mod Marks
 pub mod Good
+pub mod Steps
+pub mod Machine
+pub mod Laws

@@ -1,5 +1,5 @@
 -- The operations that calls give a queue, and how many of them have completed.
-use Rattle.std.specs.Prelude.{ℕ, ◌≡◌, ◌==◌, ◌+◌, ◌*◌, List, [], ◌∷◌, ◌++◌, length, map, slice_get, Option, Some, None, Bool, true, false, if◌then◌else◌}
+use Rattle.std.specs.Prelude.{ℕ, ◌==◌, ◌+◌, List, [], ◌∷◌, ◌++◌, map, Option, Some, None, if◌then◌else◌}
 use Rattle.dx_base.specs.declared.hresult.Hresult.{Hresult}
 use Rattle.d3d_machine.specs.declared.world.World.{World}
 use Rattle.d3d_machine.specs.declared.calls.Call.{Call}
@@ -19,7 +19,9 @@ operation_of d q (call.Close l) = []
 operation_of d q (call.Reset l a) = []
 operation_of d q (call.Execute p ls) = if (p.0 == q) then operation.Execute (gathered d.lists (map (λ l. l.0) ls)) ∷ [] else []
 operation_of d q (call.Signal p f v) = if (p.0 == q) then operation.Signal f v ∷ [] else []
+operation_of d q (call.HostSignal f v) = []
 operation_of d q (call.HostWait f v) = []
+operation_of d q (call.Value f) = []
 operation_of d q (call.Write b offset ws) = []
 operation_of d q (call.Read b offset bytes) = []
 

@@ -1,11 +1,11 @@
 -- The reply of each call: the first refusal whose condition holds, and otherwise what the call answers.
-use Rattle.std.specs.Prelude.{ℕ, ◌*◌, ◌/◌, ◌==◌, ◌&&◌, ◌||◌, not, nat_le, List, length, slice_get, take, drop, Option, Some, None, Bool, true, false, is_some}
+use Rattle.std.specs.Prelude.{ℕ, ◌*◌, ◌/◌, ◌==◌, ◌&&◌, ◌||◌, not, nat_le, List, length, slice_get, Option, Some, None, Bool, true, false, is_some}
 use Rattle.std.specs.List.{list_all, list_any}
 use Rattle.dx_base.specs.Lists.{range_of}
 use Rattle.dx_base.specs.declared.hresult.Hresult.{Hresult}
 use Rattle.dx_base.specs.declared.hresult.Hresult.TheVariants.{InvalidArg, Fail}
 use Rattle.dx_base.specs.declared.kinds.ListType.{ListType}
-use Rattle.dx_base.specs.declared.kinds.ListType.TheVariants.{Direct}
+use Rattle.dx_base.specs.declared.kinds.ListType.TheVariants as type
 use Rattle.d3d_machine.specs.declared.world.World.{World}
 use Rattle.d3d_machine.specs.declared.calls.Call.{Call}
 use Rattle.d3d_machine.specs.declared.calls.Call.TheVariants as call
@@ -15,7 +15,7 @@ use Rattle.d3d_machine.specs.declared.calls.Reply.{Reply}
 use Rattle.d3d_machine.specs.declared.calls.Reply.TheVariants as reply
 use Rattle.d3d_machine.specs.declared.events.Listed.{Listed}
 use Rattle.d3d_machine.specs.World.{resource_of, words_in, is_upload, is_readback, is_inside, overlaps}
-use Rattle.d3d_machine.specs.State.{Desk, State, list_of, words_at, is_recording, is_closed_state}
+use Rattle.d3d_machine.specs.State.{Desk, State, list_of, value_of, words_at, is_recording, is_closed_state}
 
 -- the error where the test holds, and otherwise the refusals behind it
 abbrev pub refuse_if : Bool → Hresult → Option Hresult → Option Hresult
@@ -23,7 +23,15 @@ refuse_if true e more = Some e
 refuse_if false e more = more
 
 abbrev pub same_type : ListType → ListType → Bool
-same_type Direct Direct = true
+same_type type.Direct type.Direct = true
+same_type type.Direct type.Compute = false
+same_type type.Direct type.Copy = false
+same_type type.Compute type.Direct = false
+same_type type.Compute type.Compute = true
+same_type type.Compute type.Copy = false
+same_type type.Copy type.Direct = false
+same_type type.Copy type.Compute = false
+same_type type.Copy type.Copy = true
 
 abbrev pub same_types : Option ListType → Option ListType → Bool
 same_types (Some a) (Some b) = same_type a b
@@ -67,22 +75,26 @@ refusal w d (call.Reset l a) =
     (refuse_if (list_any (records_from a.0) d.lists || not (same_types (slice_get w.lists l.0) (slice_get w.allocators a.0))) InvalidArg None)
 refusal w d (call.Execute q ls) = refuse_if (not (list_all (λ l. is_fit w d.lists q.0 l.0) ls)) Fail None
 refusal w d (call.Signal q f v) = None
+refusal w d (call.HostSignal f v) = None
 refusal w d (call.HostWait f v) = None
+refusal w d (call.Value f) = None
 refusal w d (call.Write b offset ws) =
     refuse_if (not (is_upload w b.0 && is_inside (words_in w b.0) offset (4 * length ws))) InvalidArg None
 refusal w d (call.Read b offset bytes) =
     refuse_if (not (is_readback w b.0 && (not (bytes == 0) && is_inside (words_in w b.0) offset bytes))) InvalidArg None
 
 -- what a call answers that is not refused
-abbrev pub good_reply : List (List ℕ) → Call → Reply
-good_reply m (call.Recording l what) = reply.Done
-good_reply m (call.Close l) = reply.Done
-good_reply m (call.Reset l a) = reply.Done
-good_reply m (call.Execute q ls) = reply.Done
-good_reply m (call.Signal q f v) = reply.Done
-good_reply m (call.HostWait f v) = reply.Done
-good_reply m (call.Write b offset ws) = reply.Done
-good_reply m (call.Read b offset bytes) = reply.Words (range_of (offset / 4) (bytes / 4) (words_at m b.0))
+abbrev pub good_reply : State → Call → Reply
+good_reply s (call.Recording l what) = reply.Done
+good_reply s (call.Close l) = reply.Done
+good_reply s (call.Reset l a) = reply.Done
+good_reply s (call.Execute q ls) = reply.Done
+good_reply s (call.Signal q f v) = reply.Done
+good_reply s (call.HostSignal f v) = reply.Done
+good_reply s (call.HostWait f v) = reply.Done
+good_reply s (call.Value f) = reply.Value (value_of s.desk f.0)
+good_reply s (call.Write b offset ws) = reply.Done
+good_reply s (call.Read b offset bytes) = reply.Words (range_of (offset / 4) (bytes / 4) (words_at s.memory b.0))
 
 abbrev pub reply_or : Option Hresult → Reply → Reply
 reply_or None r = r
@@ -90,4 +102,4 @@ reply_or (Some e) r = reply.Error e
 
 -- the reply of a call in a state
 abbrev pub reply_of : World → State → Call → Reply
-reply_of w s c = reply_or (refusal w s.desk c) (good_reply s.memory c)
+reply_of w s c = reply_or (refusal w s.desk c) (good_reply s c)

@@ -1,5 +1,5 @@
 -- The state of the Direct3D machine.
-use Rattle.std.specs.Prelude.{ℕ, ◌≡◌, ◌==◌, List, [], ◌∷◌, length, slice_get, slice_index_or, map, replicate, Option, Some, None, Bool, true, false}
+use Rattle.std.specs.Prelude.{ℕ, List, [], slice_get, slice_index_or, map, replicate, Option, Some, None, Bool, true, false}
 use Rattle.d3d_machine.specs.declared.world.World.{World}
 use Rattle.d3d_machine.specs.declared.calls.Call.{Call}
 use Rattle.d3d_machine.specs.declared.events.Listed.{Listed}

@@ -26,10 +26,14 @@ words_in w r = elim (resource_of w r) [ None ↦ 0 | Some b ↦ words_of_resourc
 abbrev pub is_upload_home : Home → Bool
 is_upload_home home.Upload = true
 is_upload_home home.Readback = false
+is_upload_home home.Legacy = false
+is_upload_home home.Enhanced = false
 
 abbrev pub is_readback_home : Home → Bool
 is_readback_home home.Upload = false
 is_readback_home home.Readback = true
+is_readback_home home.Legacy = false
+is_readback_home home.Enhanced = false
 
 abbrev pub home_test : (Home → Bool) → Option Resource → Bool
 home_test test None = false
@@ -66,9 +70,15 @@ is_named w (call.Close l) = nat_lt l.0 (length w.lists)
 is_named w (call.Reset l a) = nat_lt l.0 (length w.lists) && nat_lt a.0 (length w.allocators)
 is_named w (call.Execute q ls) = nat_lt q.0 (length w.queues) && list_all (λ l. nat_lt l.0 (length w.lists)) ls
 is_named w (call.Signal q f v) = nat_lt q.0 (length w.queues) && nat_lt f.0 (length w.fences)
+is_named w (call.HostSignal f v) = nat_lt f.0 (length w.fences)
 is_named w (call.HostWait f v) = nat_lt f.0 (length w.fences)
+is_named w (call.Value f) = nat_lt f.0 (length w.fences)
 is_named w (call.Write b o ws) = nat_lt b.0 (length w.resources)
 is_named w (call.Read b o n) = nat_lt b.0 (length w.resources)
+
+-- the calls of all scripts name objects of the world
+abbrev pub are_named : World → Bool
+are_named w = list_all (λ script. list_all (is_named w) script) w.scripts
 
 abbrev pub is_small_resource : Option Resource → Bool
 is_small_resource None = true
@@ -76,7 +86,7 @@ is_small_resource (Some (Buffer h n)) = nat_le n 262144
 
 -- a valid world: its calls name objects of it, its objects keep the limits, it has one queue, and each resource lives
 pub record IsWorld (w : World) : Type 0 where
-  pub named : list_all (λ script. list_all (is_named w) script) w.scripts ≡ true
+  pub named : are_named w ≡ true
   pub one_queue : length w.queues ≡ 1
   pub threads : length w.scripts ≤ 16
   pub resources : length w.resources ≤ 4096

@@ -1,6 +1,7 @@
 //! Calls and their replies.
 
 ghost use Rattle.std.specs.Prelude.{◌≡◌, IfOk};
+ghost use Rattle.d3d_machine.specs.declared.calls.Call.TheVariants.{Execute as execute_call, Write as write_call};
 
 use dx_base::{AllocatorId, FenceId, Hresult, ListId, Memory, QueueId, ResourceId, Seq};
 use std::alloc::Global;
@@ -46,10 +47,19 @@ pub enum Call {
         fence: FenceId,
         value: u64,
     },
+    /// ID3D12Fence::Signal: the host sets the fence's value, which may fall.
+    HostSignal {
+        fence: FenceId,
+        value: u64,
+    },
     /// ID3D12Fence::SetEventOnCompletion, and waiting for the event.
     HostWait {
         fence: FenceId,
         value: u64,
+    },
+    /// ID3D12Fence::GetCompletedValue.
+    Value {
+        fence: FenceId,
     },
     /// Writing words into a mapped upload buffer. The offset is in bytes.
     Write {
@@ -70,53 +80,64 @@ impl Call {
     pub fn copied(&self, alloc: Global) -> Result<Call, Memory>
         ensures { IfOk result (λ call. call ≡ self.now) }
     {
-        Ok(match self {
-            Call::Recording { list, what } => Call::Recording {
-                list: *list,
-                what: *what,
-            },
-            Call::Close { list } => Call::Close { list: *list },
-            Call::Reset { list, allocator } => Call::Reset {
-                list: *list,
-                allocator: *allocator,
-            },
-            Call::Execute { queue, lists } => Call::Execute {
-                queue: *queue,
-                lists: Seq::from_slice(alloc, lists.as_slice())?,
-            },
+        Ok(match *self {
+            Call::Recording { list, what } => Call::Recording { list, what },
+            Call::Close { list } => Call::Close { list },
+            Call::Reset { list, allocator } => Call::Reset { list, allocator },
+            Call::Execute { queue, ref lists } => copied_execute(alloc, queue, lists)?,
             Call::Signal {
                 queue,
                 fence,
                 value,
             } => Call::Signal {
-                queue: *queue,
-                fence: *fence,
-                value: *value,
+                queue,
+                fence,
+                value,
             },
-            Call::HostWait { fence, value } => Call::HostWait {
-                fence: *fence,
-                value: *value,
-            },
+            Call::HostSignal { fence, value } => Call::HostSignal { fence, value },
+            Call::HostWait { fence, value } => Call::HostWait { fence, value },
+            Call::Value { fence } => Call::Value { fence },
             Call::Write {
                 buffer,
                 offset,
-                words,
-            } => Call::Write {
-                buffer: *buffer,
-                offset: *offset,
-                words: Seq::from_slice(alloc, words.as_slice())?,
-            },
+                ref words,
+            } => copied_write(alloc, buffer, offset, words)?,
             Call::Read {
                 buffer,
                 offset,
                 bytes,
             } => Call::Read {
-                buffer: *buffer,
-                offset: *offset,
-                bytes: *bytes,
+                buffer,
+                offset,
+                bytes,
             },
         })
     }
+}
+
+/// A copy of a call that executes lists.
+fn copied_execute(alloc: Global, queue: QueueId, lists: &Seq<ListId>) -> Result<Call, Memory>
+    ensures { IfOk result (λ call. call ≡ execute_call queue lists.now) }
+{
+    let lists = Seq::from_slice(alloc, lists.as_slice())?;
+    Ok(Call::Execute { queue, lists })
+}
+
+/// A copy of a call that writes a buffer.
+fn copied_write(
+    alloc: Global,
+    buffer: ResourceId,
+    offset: u64,
+    words: &Seq<u32>,
+) -> Result<Call, Memory>
+    ensures { IfOk result (λ call. call ≡ write_call buffer offset words.now) }
+{
+    let words = Seq::from_slice(alloc, words.as_slice())?;
+    Ok(Call::Write {
+        buffer,
+        offset,
+        words,
+    })
 }
 
 /// The answer of a call.

@@ -27,9 +27,7 @@ impl World {
 fn is_same_type(a: ListType, b: ListType) -> bool
     ensures { result ≡ same_type a b }
 {
-    match (a, b) {
-        (ListType::Direct, ListType::Direct) => true,
-    }
+    a == b
 }
 
 /// Whether both types are there, and are one.
@@ -121,18 +119,7 @@ fn is_upload(world: &World, buffer: ResourceId) -> bool
     ensures { result ≡ host_writes world.now buffer.0 }
 {
     match world.resource(buffer) {
-        Some(
-            Resource::Buffer {
-                home: Home::Upload,
-                words: _,
-            },
-        ) => true,
-        Some(
-            Resource::Buffer {
-                home: Home::Readback,
-                words: _,
-            },
-        ) => false,
+        Some(Resource::Buffer { home, words: _ }) => home == Home::Upload,
         None => false,
     }
 }
@@ -142,18 +129,7 @@ fn is_readback(world: &World, buffer: ResourceId) -> bool
     ensures { result ≡ host_reads world.now buffer.0 }
 {
     match world.resource(buffer) {
-        Some(
-            Resource::Buffer {
-                home: Home::Upload,
-                words: _,
-            },
-        ) => false,
-        Some(
-            Resource::Buffer {
-                home: Home::Readback,
-                words: _,
-            },
-        ) => true,
+        Some(Resource::Buffer { home, words: _ }) => home == Home::Readback,
         None => false,
     }
 }

@@ -1,18 +1,25 @@
-//! The Direct3D machine: a world's objects and scripts, calls with their replies, and command lists.
-//! What a run of calls means stands in specs/.
+//! The Direct3D machine: a world's objects and scripts, calls with their replies, command lists, and the
+//! machine itself, which takes the steps. What a run of calls means stands in specs/.
 #![tactic(auto)]
 
 mod calls;
 mod checks;
 mod events;
+mod laws;
 mod listed;
 mod lists;
+mod machine;
+mod naming;
 #[cfg(test)]
 mod tests;
+mod thread_places;
+mod words;
 mod world;
 
 pub use calls::{Call, Record, Reply};
 pub use checks::{argument_error, read_refusal, write_refusal};
 pub use events::{Command, Event, ListState, Listed, Operation};
+pub use laws::the_steps_are_the_events_that_may_come;
 pub use lists::Lists;
+pub use machine::Machine;
 pub use world::{Resource, World};

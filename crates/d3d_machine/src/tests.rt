@@ -6,11 +6,14 @@ use crate::events::{Command, ListState};
 use crate::lists::Lists;
 use crate::world::{Resource, World};
 use dx_base::{
-    AllocatorId, Home, Hresult, LIST_COMMANDS, ListId, ListType, Memory, QueueId, ResourceId, Seq,
+    AllocatorId, FenceId, Home, Hresult, LIST_COMMANDS, ListId, ListType, Memory, QueueId,
+    ResourceId, Seq,
 };
 use std::alloc::Global;
 use std::process::Abort;
 use std::test::Fail;
+
+mod machine;
 
 /// A step of a table: a call on lists, with small numbers.
 #[derive(Clone, Copy, Debug)]
@@ -293,12 +296,25 @@ fn host_accesses_are_checked(rt: HostRuntime) -> Result<(), Fail> {
 #[test]
 fn calls_and_replies_are_copied(rt: HostRuntime) -> Result<(), Fail> {
     let alloc = rt.alloc();
-    let lists = Seq::from_slice(alloc, &[ListId(2), ListId(1)])?;
-    let call = Call::Execute {
-        queue: QueueId(0),
-        lists,
-    };
-    assert!(rt; call.copied(alloc)? == call);
+    let calls = [
+        Call::Execute {
+            queue: QueueId(0),
+            lists: Seq::from_slice(alloc, &[ListId(2), ListId(1)])?,
+        },
+        Call::HostSignal {
+            fence: FenceId(1),
+            value: 7,
+        },
+        Call::Value { fence: FenceId(1) },
+        Call::Write {
+            buffer: ResourceId(0),
+            offset: 4,
+            words: Seq::from_slice(alloc, &[9, 8])?,
+        },
+    ];
+    for call in &calls {
+        assert!(rt; call.copied(alloc)? == *call, "copying {call:?}");
+    }
     let reply = Reply::Words(Seq::from_slice(alloc, &[7, 5])?);
     assert!(rt; reply.copied(alloc)? == reply);
     Ok(())

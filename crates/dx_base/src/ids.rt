@@ -8,9 +8,21 @@ pub struct QueueId(pub u32);
 #[derive(Clone, Copy, Debug, PartialEq, Eq)]
 pub struct FenceId(pub u32);
 
-/// A buffer.
+/// A buffer or a texture.
 #[derive(Clone, Copy, Debug, PartialEq, Eq)]
 pub struct ResourceId(pub u32);
+
+/// A view.
+#[derive(Clone, Copy, Debug, PartialEq, Eq)]
+pub struct ViewId(pub u32);
+
+/// A descriptor heap.
+#[derive(Clone, Copy, Debug, PartialEq, Eq)]
+pub struct HeapId(pub u32);
+
+/// A root signature.
+#[derive(Clone, Copy, Debug, PartialEq, Eq)]
+pub struct SignatureId(pub u32);
 
 /// A command allocator.
 #[derive(Clone, Copy, Debug, PartialEq, Eq)]

@@ -13,9 +13,15 @@ mod steps;
 
 pub use fifo::Fifo;
 pub use hresult::{Hresult, Memory};
-pub use ids::{AllocatorId, FenceId, ListId, QueueId, ResourceId, ThreadId};
-pub use kinds::{Home, ListType};
-pub use limits::{LIST_COMMANDS, RESOURCE_WORDS, TRACE_BYTES};
+pub use ids::{
+    AllocatorId, FenceId, HeapId, ListId, QueueId, ResourceId, SignatureId, ThreadId, ViewId,
+};
+pub use kinds::{Class, Home, ListType, Routine, View};
+pub use limits::{
+    ALL_SLOTS, ALL_WORDS, ALLOCATORS, CALLS, EXECUTED_LISTS, FENCES, HEAP_SLOTS, HEAPS,
+    INVOCATIONS, LINE_BYTES, LIST_COMMANDS, LISTS, NAME_BYTES, QUEUES, REGISTERS, RESOURCE_WORDS,
+    RESOURCES, SIGNATURES, TABLE_RANGES, THREADS, TRACE_BYTES, VIEWS,
+};
 pub use room::Room;
 pub use seq::Seq;
 pub use steps::{Step, Torn};

@@ -18,8 +18,8 @@ use Rattle.d3d_machine.specs.Play.{IsRunButWords, SameButWords, state_after}
 use Rattle.d3d_machine.specs.Operations.{operations, counter, completions_by, called_by}
 use Rattle.d3d_machine.proofs.Operations.{operations_append, counter_append, called_after, called_step, HoldsRest}
 use Rattle.d3d_machine.proofs.Runs.{state_after_append}
-use Rattle.vk_port.specs.declared.commands.Batch.{Batch}
-use Rattle.vk_port.specs.declared.commands.VkCommand.{VkCommand}
+use Rattle.vk_types.specs.declared.batches.Batch.{Batch}
+use Rattle.vk_types.specs.declared.commands.VkCommand.{VkCommand}
 use Rattle.vk_port.specs.declared.lanes.Running.{Running}
 use Rattle.vk_port.specs.After.{lane_after_submit, after_submit}
 use Rattle.vk_port.specs.Enabled.{unmarked}

@@ -25,8 +25,8 @@ use Rattle.d3d_machine.specs.Play.{IsRunButWords, state_after}
 use Rattle.d3d_machine.specs.Operations.{operations, counter}
 use Rattle.d3d_machine.proofs.Operations.{operations_append, counter_append}
 use Rattle.d3d_machine.proofs.Runs.{state_after_append}
-use Rattle.vk_port.specs.declared.commands.Batch.{Batch}
-use Rattle.vk_port.specs.declared.commands.VkCommand.{VkCommand}
+use Rattle.vk_types.specs.declared.batches.Batch.{Batch}
+use Rattle.vk_types.specs.declared.commands.VkCommand.{VkCommand}
 use Rattle.vk_port.specs.declared.lanes.Lane.{Lane}
 use Rattle.vk_port.specs.declared.lanes.Running.{Running}
 use Rattle.vk_port.specs.declared.steps.Stepped.{Stepped}
@@ -58,7 +58,9 @@ stays None (call.Close l) none m = refl
 stays None (call.Reset l a) none m = refl
 stays None (call.Execute q ls) none m = refl
 stays None (call.Signal q f v) none m = refl
+stays None (call.HostSignal f v) none m = refl
 stays None (call.HostWait f v) none m = refl
+stays None (call.Value f) none m = refl
 stays None (call.Write b offset ws) none m = absurd (cc)
 stays None (call.Read b offset bytes) none m = refl
 

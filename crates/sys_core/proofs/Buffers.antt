@@ -1,11 +1,10 @@
 -- The device has each live buffer with its words, and so has memory.
-use Rattle.std.proofs.Common.{ℕ, zero, suc, ◌≡◌, ◌<◌, ◌≤◌, ◌^◌, ◌∙◌, sym, ap, subst, refl, arith, List, [], ◌∷◌, length, map, Some, None, Option, Bool, true, false, replicate, get_or}
+use Rattle.std.proofs.Common.{ℕ, ◌≡◌, ◌<◌, ◌^◌, ◌∙◌, sym, ap, refl, arith, List, [], ◌∷◌, length, map, Some, None, Option, true}
 use Rattle.std.proofs.lemmas.Bool.{leb-true}
 use Rattle.std.proofs.lemmas.List.{length-replicate}
 use Rattle.std.proofs.lemmas.Option.{slice_get-map, slice_get_within, get_or_from_slice_get}
 use Rattle.std.specs.List.{slice_get, list_all}
 use Rattle.std.specs.Option.{is_some, option_map}
-use Rattle.std.specs.Prelude.{◌&&◌, nat_le}
 use Rattle.d3d_machine.specs.declared.world.World.{World}
 use Rattle.d3d_machine.specs.declared.world.Resource.{Resource}
 use Rattle.d3d_machine.specs.declared.world.Resource.TheVariants.{Buffer}
@@ -16,7 +15,7 @@ use Rattle.d3d_machine.specs.Play.{state_after}
 use Rattle.d3d_machine.proofs.Named.{all_at}
 use Rattle.d3d_machine.proofs.Sizes.{memory_sizes}
 use Rattle.vk_port.specs.Valid.{Matches, words_count}
-use Rattle.vk_port.specs.VkState.{VkState, words_of}
+use Rattle.vk_port.specs.VkState.{VkState}
 use Rattle.sys_core.specs.Lowering.{plan_buffers, plan_of_world}
 use Rattle.sys_core.specs.Serving.{HasBuffers}
 

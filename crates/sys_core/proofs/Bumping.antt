@@ -1,39 +1,37 @@
 -- The system stays consistent when the device takes a step.
-use Rattle.std.proofs.Common.{ℕ, zero, suc, ◌≡◌, ◌≢◌, ◌<◌, ◌≤◌, ◌+◌, ◌-◌, ◌∙◌, sym, ap, subst, refl, arith, List, [], ◌∷◌, ◌++◌, length, map, take, drop, Some, None, Option, Bool, true, false, append-nil, length-append, get_or, set, ◌⊎◌, inl, inr, cond, length-drop, get_or-set_same}
-use Rattle.std.proofs.lemmas.Bool.{lt-ltb, ltb-true, eqb-true}
-use Rattle.std.proofs.lemmas.Bool.Decides.{eqb_tells, nat_tests}
+use Rattle.std.proofs.Common.{ℕ, zero, suc, ◌≡◌, ◌≢◌, ◌<◌, ◌≤◌, ◌+◌, ◌-◌, ◌∙◌, sym, ap, subst, refl, arith, List, [], ◌∷◌, ◌++◌, length, map, take, drop, Some, None, Option, append-nil, get_or, set, inl, inr, length-drop}
+use Rattle.std.proofs.lemmas.Bool.{lt-ltb}
+use Rattle.std.proofs.lemmas.Bool.Decides.{eqb_tells}
 use Rattle.std.proofs.lemmas.List.{length-map}
 use Rattle.std.proofs.lemmas.Option.{slice_get_within, slice_get-map, get_or_from_slice_get}
-use Rattle.std.specs.List.{slice_get, list_all, slice_index_or}
+use Rattle.std.specs.List.{slice_get, list_all}
 use Rattle.std.specs.Option.{option_map}
-use Rattle.std.specs.Prelude.{◌&&◌, ◌==◌, not, nat_lt, if◌then◌else◌}
+use Rattle.std.specs.Prelude.{◌==◌, nat_lt, if◌then◌else◌}
 use Rattle.dx_base.specs.Lists.{changed_at}
 use Rattle.dx_base.specs.declared.ids.QueueId.{QueueId}
-use Rattle.dx_base.proofs.Lists.{length_changed, get_changed, get_changed_other, get_or_changed, get_or_changed_other, changed_past}
+use Rattle.dx_base.proofs.Lists.{length_changed, get_changed, get_or_changed}
 use Rattle.d3d_machine.specs.declared.world.World.{World}
 use Rattle.d3d_machine.specs.declared.events.Listed.{Listed}
 use Rattle.d3d_machine.specs.declared.events.Operation.{Operation}
 use Rattle.d3d_machine.specs.declared.events.Operation.TheVariants.{Execute, Signal}
 use Rattle.d3d_machine.specs.declared.events.Event.{Event}
 use Rattle.d3d_machine.specs.declared.events.Event.TheVariants as event
-use Rattle.d3d_machine.specs.World.{IsWorld}
-use Rattle.d3d_machine.specs.State.{State, first_state, called_of}
+use Rattle.d3d_machine.specs.State.{State, called_of}
 use Rattle.d3d_machine.specs.Effects.{head_of, dropped, desk_after_operation}
-use Rattle.d3d_machine.specs.Play.{May, SameButWords, IsRunButWords, state_after}
+use Rattle.d3d_machine.specs.Play.{SameButWords, state_after}
 use Rattle.d3d_machine.specs.Operations.{operations, counter, completions_by}
 use Rattle.d3d_machine.proofs.Operations.{HoldsRest, called_after}
-use Rattle.vk_port.specs.declared.commands.Batch.{Batch}
+use Rattle.vk_types.specs.declared.batches.Batch.{Batch}
 use Rattle.vk_port.specs.declared.lanes.Lane.{Lane}
 use Rattle.vk_port.specs.declared.lanes.Running.{Running}
-use Rattle.vk_port.specs.declared.steps.Stepped.{Stepped}
-use Rattle.vk_port.specs.declared.steps.Stepped.TheVariants.{Passed, Ran, Bumped, Free}
-use Rattle.vk_port.specs.Journal.{next_number, of_queue, first_number, are_numbered}
+use Rattle.vk_port.specs.declared.steps.Stepped.TheVariants.{Passed, Ran, Bumped}
+use Rattle.vk_port.specs.Journal.{next_number, of_queue, first_number}
 use Rattle.vk_port.specs.Meaning.{IsBump, IsEnabled}
 use Rattle.vk_port.proofs.Valid.{step_valid}
 use Rattle.vk_port.proofs.Lists.{item_at, get_of_take}
 use Rattle.d3d_machine.proofs.Runs.{run_append, state_after_append}
 use Rattle.dx_base.specs.declared.kinds.ListType.{ListType}
-use Rattle.sys_core.proofs.Seating.{seats_complete, applied_append}
+use Rattle.sys_core.proofs.Seating.{seats_complete, applied_append, update_pushed}
 use Rattle.sys_core.proofs.Standing.{stands_complete}
 use Rattle.sys_core.proofs.Holding.{held_complete}
 use Rattle.d3d_machine.proofs.Operations.{counter_append}
@@ -49,7 +47,7 @@ use Rattle.sys_core.specs.Parts.{Queued, with_number, signal_at, without, withou
 use Rattle.sys_core.specs.Stands.{Stands, StandsAt}
 use Rattle.sys_core.specs.Steps.{submitted_of}
 use Rattle.sys_core.specs.declared.parts.Seat.{Seat}
-use Rattle.sys_core.specs.Consistent.{IsHeld, AreHeld, AreSeats, AreFences, IsConsistent, IsDevice, finished_of, signals_of}
+use Rattle.sys_core.specs.Consistent.{IsHeld, AreHeld, AreFences, IsConsistent, IsDevice, finished_of, signals_of}
 use Rattle.sys_core.proofs.Standing.{submitted_is}
 use Rattle.sys_core.proofs.Holding.{drop_here, slice_get_drop}
 use Rattle.sys_core.proofs.Lowered.{IsBatch, lowered_member, of_queue_member, number_at}
@@ -166,14 +164,7 @@ without_keeps (Some s) x = (refl, refl, refl)
 updated_is : (n : ℕ) (o : Operation) (fences : List (List ℕ)) (f : ℕ) (us : List ℕ) → slice_get fences f ≡ Some us →
     slice_get (updated_by (signal_by n o) fences) f ≡ Some (us ++ update_of_operation f (Some o))
 updated_is n (Execute cs) fences f us is = is ∙ ap (λ xs. Some xs) (sym (append-nil us))
-updated_is n (Signal g v) fences f us is =
-    elim (eqb_tells g.0 f) [
-      | inl same ↦
-          subst (λ k. slice_get (changed_at (λ xs. xs ++ v ∷ []) k fences) f ≡ Some (us ++ v ∷ [])) (sym same.1) (get_changed (λ xs. xs ++ v ∷ []) fences f ∙ ap (option_map (λ xs. xs ++ v ∷ [])) is)
-          ∙ ap (λ t. Some (us ++ (if t then v ∷ [] else []))) (sym same.0)
-      | inr other ↦
-          get_changed_other (λ xs. xs ++ v ∷ []) fences g.0 f other.1 ∙ is ∙ ap (λ xs. Some xs) (sym (append-nil us)) ∙ ap (λ t. Some (us ++ (if t then v ∷ [] else []))) (sym other.0)
-    ]
+updated_is n (Signal g v) fences f us is = update_pushed g.0 f v fences us is
 
 updated_length : (s : Option Signalled) (fences : List (List ℕ)) → length (updated_by s fences) ≡ length fences
 updated_length None fences = refl

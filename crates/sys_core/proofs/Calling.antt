@@ -1,9 +1,9 @@
 -- The system stays consistent when it has served a call, and when a thread wakes.
-use Rattle.std.proofs.Common.{ℕ, zero, suc, ◌≡◌, ◌<◌, ◌≤◌, ◌+◌, ◌-◌, ◌/◌, ◌∙◌, sym, ap, subst, refl, arith, List, [], ◌∷◌, ◌++◌, length, map, take, drop, Some, None, Option, Bool, true, false, append-nil, length-take, length-drop, ◌⊎◌, inl, inr}
+use Rattle.std.proofs.Common.{ℕ, zero, suc, ◌≡◌, ◌+◌, ◌-◌, ◌/◌, ◌∙◌, sym, ap, subst, refl, arith, List, [], ◌∷◌, ◌++◌, length, map, drop, Some, None, Option, Bool, true, false, append-nil, length-take, length-drop, inl, inr}
 use Rattle.std.proofs.lemmas.Bool.{ltb-true}
-use Rattle.std.proofs.lemmas.Option.{get_or_from_slice_get, slice_get_within}
-use Rattle.std.specs.List.{slice_get, slice_index_or}
-use Rattle.std.specs.Prelude.{◌&&◌, ◌==◌, nat_lt, if◌then◌else◌}
+use Rattle.std.proofs.lemmas.Option.{get_or_from_slice_get}
+use Rattle.std.specs.List.{slice_get}
+use Rattle.std.specs.Prelude.{◌==◌, if◌then◌else◌}
 use Rattle.dx_base.specs.Lists.{changed_at, range_of}
 use Rattle.dx_base.specs.declared.ids.ThreadId.{ThreadId}
 use Rattle.dx_base.specs.declared.hresult.Hresult.{Hresult}
@@ -16,10 +16,10 @@ use Rattle.d3d_machine.specs.declared.calls.Reply.TheVariants as reply
 use Rattle.d3d_machine.specs.declared.events.Listed.{Listed}
 use Rattle.d3d_machine.specs.declared.events.Event.{Event}
 use Rattle.d3d_machine.specs.declared.events.Event.TheVariants as event
-use Rattle.d3d_machine.specs.World.{IsWorld, is_named}
-use Rattle.d3d_machine.specs.State.{Desk, State, place_of, next_call, words_at, is_recording, list_of}
+use Rattle.d3d_machine.specs.World.{is_named}
+use Rattle.d3d_machine.specs.State.{Desk, State, place_of, next_call, value_of, words_at, is_recording, list_of}
 use Rattle.d3d_machine.specs.Replies.{refusal, reply_or, good_reply, reply_of}
-use Rattle.d3d_machine.specs.Effects.{desk_or, effect, after_refused, failed_if, desk_after_call, memory_or, written, desk_after}
+use Rattle.d3d_machine.specs.Effects.{desk_or, effect, after_refused, failed_if, desk_after_call, memory_or, written}
 use Rattle.d3d_machine.specs.Play.{May, SameButWords, state_after}
 use Rattle.d3d_machine.specs.Fences.{update_of, applied_updates, is_met}
 use Rattle.d3d_machine.proofs.Runs.{run_append, state_after_append}
@@ -29,23 +29,21 @@ use Rattle.d3d_machine.proofs.Sizes.{sizes_or}
 use Rattle.vk_port.specs.VkState.{VkState}
 use Rattle.d3d_machine.specs.declared.events.ListState.TheVariants.{Failed}
 use Rattle.sys_core.specs.declared.parts.Seat.{Seat}
-use Rattle.dx_base.specs.declared.ids.QueueId.{QueueId}
 use Rattle.d3d_machine.specs.declared.events.Operation.{Operation}
 use Rattle.d3d_machine.specs.declared.events.Operation.TheVariants as operation
 use Rattle.d3d_machine.specs.Effects.{gathered}
-use Rattle.d3d_machine.specs.Operations.{operation_of, unless_refused, called_by, completions_by, counter}
+use Rattle.d3d_machine.specs.Operations.{operation_of, unless_refused, called_by, completions_by}
 use Rattle.d3d_machine.proofs.Operations.{counter_append}
 use Rattle.std.proofs.lemmas.Bool.Decides.{eqb_tells}
 use Rattle.std.specs.Option.{option_map}
-use Rattle.vk_port.specs.Valid.{IsValid, Matches}
-use Rattle.vk_port.specs.Journal.{first_number}
-use Rattle.sys_core.specs.Parts.{Queued, with_operation, pushes, held_or, held_by, woken_seat, desk_of, reply_by, lists_by, device_by, armed_after, seat_after, updates_at}
-use Rattle.sys_core.specs.Consistent.{AreSeats, AreFences, IsHeld, AreHeld, IsDevice, IsConsistent, finished_of}
-use Rattle.sys_core.specs.Lowering.{plan_of_world}
+use Rattle.sys_core.specs.Parts.{Queued, with_operation, pushes, held_or, held_by, fences_by, woken_seat, desk_of, state_by, reply_by, lists_by, device_by, seat_after}
+use Rattle.sys_core.specs.Values.{last_of}
+use Rattle.sys_core.specs.Consistent.{AreSeats, AreFences, AreHeld, IsDevice, IsConsistent}
 use Rattle.sys_core.proofs.Standing.{stands_event}
 use Rattle.sys_core.proofs.Holding.{held_event}
 use Rattle.sys_core.proofs.Buffers.{same_sizes}
-use Rattle.sys_core.proofs.Seating.{call_seat, armed_by, names_a_fence, LastIsValue, seats_call, seats_awake, applied_append}
+use Rattle.sys_core.proofs.Seating.{call_seat, names_a_fence, seats_call, seats_awake, fences_call, applied_append}
+use Rattle.sys_core.proofs.Values.{values_are}
 
 -- refusals look at the lists alone
 pub refusal_by_lists : (w : World) (d : Desk) (c : Call) → refusal w (desk_of d.lists) c ≡ refusal w d c
@@ -54,7 +52,9 @@ refusal_by_lists w d (call.Close l) = refl
 refusal_by_lists w d (call.Reset l a) = refl
 refusal_by_lists w d (call.Execute q ls) = refl
 refusal_by_lists w d (call.Signal q f v) = refl
+refusal_by_lists w d (call.HostSignal f v) = refl
 refusal_by_lists w d (call.HostWait f v) = refl
+refusal_by_lists w d (call.Value f) = refl
 refusal_by_lists w d (call.Write b o ws) = refl
 refusal_by_lists w d (call.Read b o n) = refl
 
@@ -68,31 +68,52 @@ size_at (x ∷ xs) [] b same = absurd (cc)
 size_at (x ∷ xs) (y ∷ ys) zero same = grind arith
 size_at (x ∷ xs) (y ∷ ys) (suc b) same = size_at xs ys b (let e : map length xs ≡ map length ys = grind arith in e)
 
--- the reply by the device's words is the machine's but for the words
-reply_same : (r : Option Hresult) (c : Call) (m n : List (List ℕ)) → map length m ≡ map length n → SameButWords (reply_or r (good_reply m c)) (reply_or r (good_reply n c))
-reply_same (Some e) c m n same = refl
-reply_same None (call.Recording l what) m n same = refl
-reply_same None (call.Close l) m n same = refl
-reply_same None (call.Reset l a) m n same = refl
-reply_same None (call.Execute q ls) m n same = refl
-reply_same None (call.Signal q f v) m n same = refl
-reply_same None (call.HostWait f v) m n same = refl
-reply_same None (call.Write b o ws) m n same = refl
-reply_same None (call.Read b o k) m n same =
+-- the value of a fence, in two desks whose fences have one value
+pub value_replied : (f : ℕ) (d k : Desk) → d.fences ≡ k.fences → reply.Value (value_of d f) ≡ reply.Value (value_of k f)
+value_replied f d k values = ap (λ vs. reply.Value (elim (slice_get vs f) [ None ↦ 0 | Some v ↦ v ])) values
+
+-- the replies in two states whose fences have one value, and whose memories are one, are one
+pub good_alike : (c : Call) (s u : State) → s.desk.fences ≡ u.desk.fences → s.memory ≡ u.memory → good_reply s c ≡ good_reply u c
+good_alike (call.Recording l what) s u values words = refl
+good_alike (call.Close l) s u values words = refl
+good_alike (call.Reset l a) s u values words = refl
+good_alike (call.Execute q ls) s u values words = refl
+good_alike (call.Signal q f v) s u values words = refl
+good_alike (call.HostSignal f v) s u values words = refl
+good_alike (call.HostWait f v) s u values words = refl
+good_alike (call.Value f) s u values words = value_replied f.0 s.desk u.desk values
+good_alike (call.Write b o ws) s u values words = refl
+good_alike (call.Read b o k) s u values words = ap (λ m. reply.Words (range_of (o / 4) (k / 4) (words_at m b.0))) words
+
+-- the replies in two states whose fences have one value, and whose memories have one size, are one but for the words
+reply_same : (r : Option Hresult) (c : Call) (s u : State) → s.desk.fences ≡ u.desk.fences → map length s.memory ≡ map length u.memory →
+    SameButWords (reply_or r (good_reply s c)) (reply_or r (good_reply u c))
+reply_same (Some e) c s u values sizes = refl
+reply_same None (call.Recording l what) s u values sizes = refl
+reply_same None (call.Close l) s u values sizes = refl
+reply_same None (call.Reset l a) s u values sizes = refl
+reply_same None (call.Execute q ls) s u values sizes = refl
+reply_same None (call.Signal q f v) s u values sizes = refl
+reply_same None (call.HostSignal f v) s u values sizes = refl
+reply_same None (call.HostWait f v) s u values sizes = refl
+reply_same None (call.Value f) s u values sizes = value_replied f.0 s.desk u.desk values
+reply_same None (call.Write b o ws) s u values sizes = refl
+reply_same None (call.Read b o k) s u values sizes =
     omega (
       arith,
-      length-take (k / 4) (drop (o / 4) (words_at m b.0)),
-      length-take (k / 4) (drop (o / 4) (words_at n b.0)),
-      length-drop (o / 4) (words_at m b.0),
-      length-drop (o / 4) (words_at n b.0),
-      size_at m n b.0 same,
+      length-take (k / 4) (drop (o / 4) (words_at s.memory b.0)),
+      length-take (k / 4) (drop (o / 4) (words_at u.memory b.0)),
+      length-drop (o / 4) (words_at s.memory b.0),
+      length-drop (o / 4) (words_at u.memory b.0),
+      size_at s.memory u.memory b.0 sizes,
     )
 
-pub replies_alike : (w : World) (s : State) (lists : List Listed) (v : VkState) (c : Call) → lists ≡ s.desk.lists → map length v.words ≡ map length s.memory →
-    SameButWords (reply_by w lists v c) (reply_of w s c)
-replies_alike w s lists v c are sizes =
-    subst (λ r. SameButWords (reply_or r (good_reply v.words c)) (reply_of w s c)) (sym (refusal_is w s.desk lists c are))
-    (reply_same (refusal w s.desk c) c v.words s.memory sizes)
+-- the reply by the fences' updates and the device's words is the machine's but for the words
+pub replies_alike : (w : World) (s : State) (lists : List Listed) (fences : List (List ℕ)) (v : VkState) (c : Call) → lists ≡ s.desk.lists →
+    map last_of fences ≡ s.desk.fences → map length v.words ≡ map length s.memory → SameButWords (reply_by w lists fences v c) (reply_of w s c)
+replies_alike w s lists fences v c are values sizes =
+    subst (λ r. SameButWords (reply_or r (good_reply (state_by lists fences v) c)) (reply_of w s c)) (sym (refusal_is w s.desk lists c are))
+    (reply_same (refusal w s.desk c) c (state_by lists fences v) s values sizes)
 
 or_lists : (r : Option Hresult) (a b x y : Desk) → a.lists ≡ x.lists → b.lists ≡ y.lists → (desk_or r a b).lists ≡ (desk_or r x y).lists
 or_lists None a b x y good bad = good
@@ -111,7 +132,9 @@ lists_by_lists w d t (call.Close l) =
 lists_by_lists w d t (call.Reset l a) = or_lists (refusal w d (call.Reset l a)) (effect w (desk_of d.lists) 0 (call.Reset l a)) (desk_of d.lists) (effect w d t (call.Reset l a)) d refl refl
 lists_by_lists w d t (call.Execute q ls) = or_lists (refusal w d (call.Execute q ls)) (effect w (desk_of d.lists) 0 (call.Execute q ls)) (desk_of d.lists) (effect w d t (call.Execute q ls)) d refl refl
 lists_by_lists w d t (call.Signal q f v) = refl
+lists_by_lists w d t (call.HostSignal f v) = refl
 lists_by_lists w d t (call.HostWait f v) = refl
+lists_by_lists w d t (call.Value f) = refl
 lists_by_lists w d t (call.Write b o ws) = or_lists (refusal w d (call.Write b o ws)) (desk_of d.lists) (desk_of d.lists) d d refl refl
 lists_by_lists w d t (call.Read b o n) = or_lists (refusal w d (call.Read b o n)) (desk_of d.lists) (desk_of d.lists) d d refl refl
 
@@ -129,7 +152,7 @@ fences_same w h e fences are none = record {
   each = λ f within. are.each f within ∙ ap (λ us. Some us) (sym (applied_append w h e f ∙ ap (λ us. applied_updates w h f ++ us) (none f) ∙ append-nil (applied_updates w h f)));
 }
 
-changed_ext : {A : Type 0} (f g : A → A) (k : ℕ) (xs : List A) → ((x : A) → f x ≡ g x) → changed_at f k xs ≡ changed_at g k xs
+pub changed_ext : {A : Type 0} (f g : A → A) (k : ℕ) (xs : List A) → ((x : A) → f x ≡ g x) → changed_at f k xs ≡ changed_at g k xs
 changed_ext f g k [] same = refl
 changed_ext f g zero (x ∷ xs) same = ap (λ y. y ∷ xs) (same x)
 changed_ext f g (suc k) (x ∷ xs) same = ap (λ ys. x ∷ ys) (changed_ext f g k xs same)
@@ -140,9 +163,11 @@ seat_is w h fences (call.Close l) are named s = refl
 seat_is w h fences (call.Reset l a) are named s = refl
 seat_is w h fences (call.Execute q ls) are named s = refl
 seat_is w h fences (call.Signal q f v) are named s = refl
+seat_is w h fences (call.HostSignal f v) are named s = refl
 seat_is w h fences (call.HostWait f v) are named s =
     ap (λ us. let x : Seat = record { made = s.made + 1; waits = Some (record { fence = f; value = v; since = length us - 1 }) } in x)
     (get_or_from_slice_get fences f.0 (applied_updates w h f.0) [] (are.each f.0 named))
+seat_is w h fences (call.Value f) are named s = refl
 seat_is w h fences (call.Write b o ws) are named s = refl
 seat_is w h fences (call.Read b o n) are named s = refl
 
@@ -152,7 +177,9 @@ fence_named w (call.Close l) named = tt
 fence_named w (call.Reset l a) named = tt
 fence_named w (call.Execute q ls) named = tt
 fence_named w (call.Signal q f v) named = tt
+fence_named w (call.HostSignal f v) named = tt
 fence_named w (call.HostWait f v) named = ltb-true f.0 (length w.fences) named
+fence_named w (call.Value f) named = tt
 fence_named w (call.Write b o ws) named = tt
 fence_named w (call.Read b o n) named = tt
 
@@ -198,7 +225,9 @@ held_at None d (call.Close l) q held y is = (y, is, sym (none_called y))
 held_at None d (call.Reset l a) q held y is = (y, is, sym (none_called y))
 held_at None d (call.Execute p ls) q held y is = pushed_at (operation.Execute (gathered d.lists (map (λ l. l.0) ls))) p.0 q held y is
 held_at None d (call.Signal p f v) q held y is = pushed_at (operation.Signal f v) p.0 q held y is
+held_at None d (call.HostSignal f v) q held y is = (y, is, sym (none_called y))
 held_at None d (call.HostWait f v) q held y is = (y, is, sym (none_called y))
+held_at None d (call.Value f) q held y is = (y, is, sym (none_called y))
 held_at None d (call.Write b o ws) q held y is = (y, is, sym (none_called y))
 held_at None d (call.Read b o n) q held y is = (y, is, sym (none_called y))
 
@@ -208,7 +237,9 @@ pushes_length lists (call.Close l) held = refl
 pushes_length lists (call.Reset l a) held = refl
 pushes_length lists (call.Execute p ls) held = length_changed (with_operation (operation.Execute (gathered lists (map (λ l. l.0) ls)))) held p.0
 pushes_length lists (call.Signal p f v) held = length_changed (with_operation (operation.Signal f v)) held p.0
+pushes_length lists (call.HostSignal f v) held = refl
 pushes_length lists (call.HostWait f v) held = refl
+pushes_length lists (call.Value f) held = refl
 pushes_length lists (call.Write b o ws) held = refl
 pushes_length lists (call.Read b o n) held = refl
 
@@ -246,17 +277,18 @@ device_is w h e v words is none sizes = record {
 -- a call that is served
 pub consistent_call : (w : World) (h : List Event) (lists : List Listed) (seats : List Seat) (fences : List (List ℕ)) (held : List Queued) (v : VkState) (t : ThreadId) (c : Call) →
     IsConsistent w h lists seats fences held v → (place_of (state_after w h).desk t.0).waits ≡ None → next_call w (state_after w h).desk t.0 ≡ Some c →
-    IsConsistent w (h ++ event.Call t c (reply_by w lists v c) ∷ []) (lists_by w lists c) (changed_at (seat_after fences c) t.0 seats) fences (held_by w lists c held) (device_by w lists v c)
+    IsConsistent w (h ++ event.Call t c (reply_by w lists fences v c) ∷ []) (lists_by w lists c) (changed_at (seat_after fences c) t.0 seats) (fences_by c fences) (held_by w lists c held)
+    (device_by w lists v c)
 consistent_call w h lists seats fences held v t c is waits next =
-    let r : Reply = reply_by w lists v c in
+    let r : Reply = reply_by w lists fences v c in
     let e : Event = event.Call t c r in
     let sizes : map length v.words ≡ map length (state_after w h).memory = same_sizes w h v is.world is.device.objects in
     record {
       world = is.world;
-      run = run_append w h e is.run (waits, next, replies_alike w (state_after w h) lists v c is.lists_are sizes);
+      run = run_append w h e is.run (waits, next, replies_alike w (state_after w h) lists fences v c is.lists_are (values_are w h fences is.fences_are) sizes);
       lists_are = lists_are w h lists t c r is.lists_are;
       seats_are = seats_are w h fences t c r seats is.seats_are is.fences_are (fence_named w c (next_is_named w (state_after w h).desk t.0 c is.world next));
-      fences_are = fences_same w h e fences is.fences_are (λ f. refl);
+      fences_are = fences_call w h t c r fences is.fences_are;
       held_are = held_are w h v (device_by w lists v c) lists held t c r is.held_are is.lists_are refl;
       device = device_is w h e v (memory_or (refusal w (desk_of lists) c) (written c v.words) v.words) is.device (λ q. refl) (sizes_or (refusal w (desk_of lists) c) c v.words);
     }

@@ -1,22 +1,19 @@
 -- What a step of the device needs, and what it leaves.
-use Rattle.std.proofs.Common.{ℕ, zero, suc, ◌≡◌, ◌<◌, ◌≤◌, ◌+◌, ◌-◌, ◌∙◌, sym, ap, subst, refl, arith, List, [], ◌∷◌, ◌++◌, length, map, drop, Some, None, Option, Bool, true, false, get_or, cond, append-nil, ◌⊎◌, inl, inr, slice_set}
+use Rattle.std.proofs.Common.{ℕ, zero, suc, ◌≡◌, ◌<◌, ◌≤◌, ◌∙◌, sym, ap, subst, refl, arith, List, [], ◌∷◌, ◌++◌, length, map, Some, Option, get_or, ◌⊎◌, inl, inr, slice_set}
 use Rattle.std.proofs.lemmas.List.{length-map}
-use Rattle.std.proofs.lemmas.Option.{slice_get_within, slice_get-map, slice_get_read}
-use Rattle.std.proofs.lemmas.Bool.{eqb-true}
-use Rattle.std.proofs.lemmas.Bool.Decides.{eqb_tells, leb_tells}
+use Rattle.std.proofs.lemmas.Option.{slice_get_within, slice_get-map}
+use Rattle.std.proofs.lemmas.Bool.Decides.{leb_tells}
 use Rattle.std.specs.List.{slice_get}
 use Rattle.std.specs.Option.{option_map}
-use Rattle.std.specs.Prelude.{◌==◌, if◌then◌else◌}
 use Rattle.dx_base.specs.Lists.{changed_at}
 use Rattle.dx_base.specs.Roomy.{Roomy}
 use Rattle.dx_base.proofs.Lists.{map_write}
 use Rattle.sys_core.specs.declared.parts.Signalled.{Signalled}
 use Rattle.sys_core.proofs.WorkerStep.{held_at}
-use Rattle.dx_base.specs.declared.ids.QueueId.{QueueId}
 use Rattle.d3d_machine.specs.declared.world.World.{World}
 use Rattle.d3d_machine.specs.declared.events.Event.{Event}
 use Rattle.d3d_machine.specs.declared.events.Event.TheVariants as event
-use Rattle.vk_port.specs.declared.plan.DevicePlan.{DevicePlan}
+use Rattle.vk_types.specs.declared.plan.DevicePlan.{DevicePlan}
 use Rattle.vk_port.specs.declared.steps.Stepped.{Stepped}
 use Rattle.vk_port.specs.declared.steps.Stepped.TheVariants.{Passed, Ran, Bumped, Free}
 use Rattle.vk_port.specs.Enabled.{enabled_steps}
@@ -26,8 +23,7 @@ use Rattle.vk_port.specs.After.{after_step}
 use Rattle.vk_port.proofs.Enabled.{enabled_means}
 use Rattle.sys_core.specs.declared.parts.Held.{Held}
 use Rattle.sys_core.specs.declared.parts.Parts.{Parts}
-use Rattle.sys_core.specs.Parts.{Queued, queued, updates_in, signal_at, without, updated_by}
-use Rattle.sys_core.specs.Steps.{step_events, IsDeviceStep}
+use Rattle.sys_core.specs.Parts.{queued, updates_in, signal_at, without, updated_by}
 use Rattle.sys_core.specs.Consistent.{IsConsistent}
 use Rattle.sys_core.specs.Keeps.{Keeps}
 use Rattle.sys_core.proofs.Bumping.{consistent_pass, consistent_run, consistent_start, consistent_end}

@@ -15,7 +15,7 @@ use Rattle.d3d_machine.specs.declared.events.Operation.{Operation}
 use Rattle.d3d_machine.specs.State.{script_of}
 use Rattle.d3d_machine.specs.Operations.{operations}
 use Rattle.d3d_machine.proofs.Shape.{run_has_shape}
-use Rattle.vk_port.specs.declared.plan.DevicePlan.{DevicePlan}
+use Rattle.vk_types.specs.declared.plan.DevicePlan.{DevicePlan}
 use Rattle.vk_port.specs.Offers.{steps_offered}
 use Rattle.vk_port.specs.VkState.{VkState}
 use Rattle.sys_core.specs.declared.parts.Held.{Held}

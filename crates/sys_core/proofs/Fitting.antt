@@ -1,8 +1,8 @@
 -- Batches of good operations name objects of the device, and their numbers are small.
-use Rattle.std.proofs.Common.{ℕ, zero, suc, ◌≡◌, ◌<◌, ◌≤◌, ◌+◌, ◌*◌, ◌/◌, ◌^◌, ◌∙◌, sym, ap, refl, arith, List, [], ◌∷◌, ◌++◌, length, map, Some, None, Option, Bool, true, false}
-use Rattle.std.proofs.lemmas.Bool.{leb-true, ltb-true, lt-ltb}
+use Rattle.std.proofs.Common.{ℕ, suc, ◌≡◌, ◌<◌, ◌≤◌, ◌+◌, ◌*◌, ◌/◌, ◌^◌, ap, refl, arith, List, [], ◌∷◌, length, Some, None, Option, Bool, true, false}
+use Rattle.std.proofs.lemmas.Bool.{leb-true, lt-ltb}
 use Rattle.std.proofs.lemmas.Option.{slice_get_within}
-use Rattle.std.specs.List.{list_all, slice_get}
+use Rattle.std.specs.List.{list_all}
 use Rattle.std.specs.Option.{is_some}
 use Rattle.std.specs.Prelude.{◌&&◌, ◌==◌, not, nat_lt, nat_le, if◌then◌else◌}
 use Rattle.dx_base.proofs.Lists.{and_both, and_of, all_append}
@@ -18,10 +18,8 @@ use Rattle.d3d_machine.specs.World.{IsWorld, resource_of, words_of_resource, wor
 use Rattle.d3d_machine.specs.Replies.{is_copy}
 use Rattle.d3d_machine.specs.Good.{is_good_record, is_good_command, is_good_operation}
 use Rattle.d3d_machine.proofs.Named.{all_at}
-use Rattle.vk_port.specs.declared.commands.VkCommand.{VkCommand}
-use Rattle.vk_port.specs.declared.plan.PlanBuffer.{PlanBuffer}
 use Rattle.vk_port.specs.Journal.{command_fits, pairs_fit, fits_plan}
-use Rattle.sys_core.specs.Lowering.{plan_buffers, plan_of_world, own_wait, lower_record, lower_commands, lowered_commands, leading, trailing}
+use Rattle.sys_core.specs.Lowering.{plan_buffers, plan_of_world, own_wait, lower_record, lower_commands, lowered_commands, trailing}
 use Rattle.sys_core.specs.Batches.{batch_by, waits_by, is_small_record, is_small_operation}
 use Rattle.sys_core.proofs.Buffers.{lives_at}
 

@@ -1,9 +1,8 @@
 -- The queues' held operations after each kind of step.
-use Rattle.std.proofs.Common.{ℕ, zero, suc, ◌≡◌, ◌≢◌, ◌<◌, ◌≤◌, ◌+◌, ◌-◌, ◌∙◌, sym, ap, subst, refl, arith, List, [], ◌∷◌, ◌++◌, length, drop, take, map, Some, None, Option, Bool, true, false, append_assoc, length-append, ◌⊎◌, inl, inr, cond, add-one}
+use Rattle.std.proofs.Common.{ℕ, zero, suc, ◌≡◌, ◌<◌, ◌≤◌, ◌+◌, ◌-◌, ◌∙◌, sym, ap, refl, arith, List, [], ◌∷◌, ◌++◌, length, drop, take, Some, length-append, add-one}
 use Rattle.std.proofs.lemmas.List.{drop-append-le, append-nil, take-append-le, drop-drop, length-drop, length-take}
 use Rattle.std.proofs.lemmas.Option.{slice_get_within}
 use Rattle.std.specs.List.{slice_get}
-use Rattle.std.specs.Prelude.{if◌then◌else◌, ◌==◌, ◌&&◌, nat_lt}
 use Rattle.d3d_machine.specs.declared.world.World.{World}
 use Rattle.d3d_machine.specs.declared.events.Operation.{Operation}
 use Rattle.d3d_machine.specs.declared.events.Operation.TheVariants.{Execute, Signal}
@@ -14,7 +13,6 @@ use Rattle.d3d_machine.specs.Play.{state_after}
 use Rattle.d3d_machine.proofs.Operations.{operations_append, counter_append}
 use Rattle.vk_port.specs.Journal.{next_number}
 use Rattle.vk_port.specs.VkState.{VkState}
-use Rattle.sys_core.specs.declared.parts.Signalled.{Signalled}
 use Rattle.sys_core.specs.Parts.{Queued, last_with, signal_of, without_first}
 use Rattle.sys_core.specs.Lowering.{last_signal}
 use Rattle.sys_core.specs.Steps.{submitted_of}

@@ -1,8 +1,7 @@
 -- A host access that is not refused lies inside the device's buffer.
-use Rattle.std.proofs.Common.{ℕ, zero, suc, ◌≡◌, ◌<◌, ◌≤◌, ◌+◌, ◌*◌, ◌/◌, ◌%◌, ◌^◌, ◌∙◌, sym, ap, refl, arith, List, length, Some, None, Option, Bool, true, false}
+use Rattle.std.proofs.Common.{ℕ, ◌≡◌, ◌<◌, ◌≤◌, ◌+◌, ◌*◌, ◌/◌, ◌%◌, ◌^◌, ap, refl, arith, length, Some, None, Option, Bool, true, false}
 use Rattle.std.proofs.lemmas.Bool.{eqb-true, leb-true}
 use Rattle.std.specs.Prelude.{◌==◌, ◌&&◌, not, nat_le}
-use Rattle.dx_base.specs.declared.hresult.Hresult.{Hresult}
 use Rattle.dx_base.specs.declared.hresult.Hresult.TheVariants.{InvalidArg}
 use Rattle.dx_base.specs.declared.kinds.Home.{Home}
 use Rattle.d3d_machine.specs.declared.world.World.{World}

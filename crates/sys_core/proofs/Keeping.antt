@@ -1,34 +1,33 @@
 -- The system keeps what it keeps at each step.
-use Rattle.std.proofs.Common.{ℕ, zero, suc, ◌≡◌, ◌<◌, ◌≤◌, ◌+◌, ◌-◌, ◌∙◌, sym, ap, subst, refl, arith, List, [], ◌∷◌, ◌++◌, length, map, Some, None, Option, Bool, true, false, get_or, cond}
+use Rattle.std.proofs.Common.{ℕ, ◌≡◌, ◌<◌, ◌∙◌, sym, ap, subst, refl, List, [], ◌∷◌, ◌++◌, length, map, Some, None, Option, true}
 use Rattle.std.proofs.lemmas.Bool.{ltb-true}
-use Rattle.std.proofs.lemmas.List.{length-map}
-use Rattle.std.proofs.lemmas.Option.{slice_get_within, slice_get-map, get_or_from_slice_get}
-use Rattle.std.specs.List.{slice_get, list_all}
+use Rattle.std.proofs.lemmas.Option.{slice_get-map, get_or_from_slice_get}
+use Rattle.std.specs.List.{slice_get}
 use Rattle.std.specs.Option.{option_map}
-use Rattle.std.specs.Prelude.{◌&&◌, nat_lt}
+use Rattle.std.specs.Prelude.{nat_lt}
 use Rattle.dx_base.specs.Lists.{changed_at}
 use Rattle.dx_base.specs.declared.ids.ThreadId.{ThreadId}
 use Rattle.dx_base.proofs.Lists.{and_both}
 use Rattle.d3d_machine.specs.declared.world.World.{World}
 use Rattle.d3d_machine.specs.declared.calls.Call.{Call}
+use Rattle.d3d_machine.specs.declared.calls.Call.TheVariants as call
 use Rattle.d3d_machine.specs.declared.events.Event.{Event}
 use Rattle.d3d_machine.specs.declared.events.Event.TheVariants as event
-use Rattle.d3d_machine.specs.State.{Place, place_of, opening_place, next_call, script_of}
-use Rattle.d3d_machine.specs.Play.{May, SameButWords, is_marked, state_after}
+use Rattle.d3d_machine.specs.State.{Place, place_of, opening_place, script_of}
+use Rattle.d3d_machine.specs.Play.{is_marked, state_after}
 use Rattle.d3d_machine.specs.Fences.{applied_updates, is_met}
 use Rattle.d3d_machine.proofs.Named.{all_at}
-use Rattle.vk_port.specs.declared.plan.DevicePlan.{DevicePlan}
+use Rattle.vk_types.specs.declared.plan.DevicePlan.{DevicePlan}
 use Rattle.vk_port.specs.VkState.{VkState}
 use Rattle.sys_core.specs.declared.parts.Armed.{Armed}
 use Rattle.sys_core.specs.declared.parts.Seat.{Seat}
 use Rattle.sys_core.specs.declared.parts.Parts.{Parts}
-use Rattle.sys_core.specs.Lowering.{plan_of_world}
-use Rattle.sys_core.specs.Parts.{Queued, queued, updates_in, updates_at, is_met_by, reply_by, lists_by, held_by, device_by, seat_after, woken_seat}
+use Rattle.sys_core.specs.Parts.{Queued, queued, updates_in, is_met_by, reply_by, lists_by, held_by, fences_by, device_by, seat_after, woken_seat}
 use Rattle.sys_core.specs.Steps.{is_ready_thread, is_ready_place}
 use Rattle.sys_core.specs.Consistent.{place_from, is_behind, waiting_from, is_armed_met, IsConsistent, AreFences}
 use Rattle.sys_core.specs.Serving.{Serves, StaysParts}
-use Rattle.sys_core.specs.Keeps.{Keeps, IsSystem, ready_by}
-use Rattle.sys_core.proofs.Calling.{consistent_call, consistent_awake}
+use Rattle.sys_core.specs.Keeps.{Keeps, ready_by}
+use Rattle.sys_core.proofs.Calling.{changed_ext, consistent_call, consistent_awake}
 
 -- the machine's place of a thread, from the system's
 pub place_is : (w : World) (h : List Event) (p : Parts) (v : VkState) (t : ℕ) (s : Seat) →
@@ -66,33 +65,51 @@ keeps_same state plan_of w h p r d e keeps stays device plan = record {
   consistent =
       subst (λ v. IsConsistent w h r.lists r.seats (map updates_in r.fences) (map queued r.held) v) (sym device)
       (subst (λ x. IsConsistent w h r.lists r.seats (map updates_in r.fences) x (state d)) (sym stays.held)
-      (subst (λ x. IsConsistent w h r.lists r.seats (map updates_in x) (map queued p.held) (state d)) (sym stays.fences)
+      (subst (λ x. IsConsistent w h r.lists r.seats x (map queued p.held) (state d)) (sym stays.fences)
       (subst (λ x. IsConsistent w h r.lists x (map updates_in p.fences) (map queued p.held) (state d)) (sym stays.seats)
       (subst (λ x. IsConsistent w h x p.seats (map updates_in p.fences) (map queued p.held) (state d)) (sym stays.lists) keeps.consistent))));
   plan = plan ∙ keeps.plan;
 }
 
+-- only a wait looks at the fences, and it leaves them
+seat_unmoved : (c : Call) (fences : List (List ℕ)) (s : Seat) → seat_after (fences_by c fences) c s ≡ seat_after fences c s
+seat_unmoved (call.Recording l what) fences s = refl
+seat_unmoved (call.Close l) fences s = refl
+seat_unmoved (call.Reset l a) fences s = refl
+seat_unmoved (call.Execute q ls) fences s = refl
+seat_unmoved (call.Signal q f v) fences s = refl
+seat_unmoved (call.HostSignal f v) fences s = refl
+seat_unmoved (call.HostWait f v) fences s = refl
+seat_unmoved (call.Value f) fences s = refl
+seat_unmoved (call.Write b o ws) fences s = refl
+seat_unmoved (call.Read b o n) fences s = refl
+
 -- a call was served, and the thread's place moved
 pub keeps_call : {D : Type 0} (state : D → VkState) (plan_of : D → Option DevicePlan) (w : World) (h : List Event) (p r x : Parts) (d e : D) (t : ThreadId) (c : Call) (s : Seat) →
     Keeps state plan_of w h p d → slice_get p.seats t.0 ≡ Some s → s.waits ≡ None → slice_get (script_of w t.0) s.made ≡ Some c →
     Serves w c p r → state e ≡ device_by w p.lists (state d) c → plan_of e ≡ plan_of d →
-    x.lists ≡ r.lists → x.fences ≡ r.fences → x.held ≡ r.held → x.seats ≡ changed_at (seat_after (map updates_in p.fences) c) t.0 r.seats →
-    Keeps state plan_of w (h ++ event.Call t c (reply_by w p.lists (state d) c) ∷ []) x e
+    x.lists ≡ r.lists → x.fences ≡ r.fences → x.held ≡ r.held → x.seats ≡ changed_at (seat_after (map updates_in r.fences) c) t.0 r.seats →
+    Keeps state plan_of w (h ++ event.Call t c (reply_by w p.lists (map updates_in p.fences) (state d) c) ∷ []) x e
 keeps_call state plan_of w h p r x d e t c s keeps at waits next serves device plan lists fences held seats =
+    let us : List (List ℕ) = map updates_in p.fences in
     let place : place_of (state_after w h).desk t.0 ≡ place_from w h s = place_is w h p (state d) t.0 s keeps.consistent at in
-    let k : List Event = h ++ event.Call t c (reply_by w p.lists (state d) c) ∷ [] in
-    let is : IsConsistent w k (lists_by w p.lists c) (changed_at (seat_after (map updates_in p.fences) c) t.0 p.seats) (map updates_in p.fences) (held_by w p.lists c (map queued p.held)) (device_by w p.lists (state d) c) =
-    consistent_call w h p.lists p.seats (map updates_in p.fences) (map queued p.held) (state d) t c keeps.consistent
+    let k : List Event = h ++ event.Call t c (reply_by w p.lists us (state d) c) ∷ [] in
+    let v : VkState = device_by w p.lists (state d) c in
+    let qs : List Queued = held_by w p.lists c (map queued p.held) in
+    let is : IsConsistent w k (lists_by w p.lists c) (changed_at (seat_after us c) t.0 p.seats) (fences_by c us) qs v =
+    consistent_call w h p.lists p.seats us (map queued p.held) (state d) t c keeps.consistent
     (ap (λ (y : Place). y.waits) place ∙ ap (option_map (waiting_from w h)) waits)
     (ap (λ (y : Place). slice_get (script_of w t.0) y.made) place ∙ next) in
+    let seated : x.seats ≡ changed_at (seat_after us c) t.0 p.seats =
+    seats ∙ ap (λ fs. changed_at (seat_after fs c) t.0 r.seats) serves.fences ∙ ap (changed_at (seat_after (fences_by c us) c) t.0) serves.seats
+    ∙ changed_ext (seat_after (fences_by c us) c) (seat_after us c) t.0 p.seats (seat_unmoved c us) in
     record {
       consistent =
-          subst (λ v. IsConsistent w k x.lists x.seats (map updates_in x.fences) (map queued x.held) v) (sym device)
-          (subst (λ y. IsConsistent w k x.lists x.seats (map updates_in x.fences) y (device_by w p.lists (state d) c)) (sym (ap (map queued) held ∙ serves.held))
-          (subst (λ y. IsConsistent w k x.lists x.seats (map updates_in y) (held_by w p.lists c (map queued p.held)) (device_by w p.lists (state d) c)) (sym (fences ∙ serves.fences))
-          (subst (λ y. IsConsistent w k x.lists y (map updates_in p.fences) (held_by w p.lists c (map queued p.held)) (device_by w p.lists (state d) c))
-          (sym (seats ∙ ap (changed_at (seat_after (map updates_in p.fences) c) t.0) serves.seats))
-          (subst (λ y. IsConsistent w k y (changed_at (seat_after (map updates_in p.fences) c) t.0 p.seats) (map updates_in p.fences) (held_by w p.lists c (map queued p.held)) (device_by w p.lists (state d) c))
+          subst (λ y. IsConsistent w k x.lists x.seats (map updates_in x.fences) (map queued x.held) y) (sym device)
+          (subst (λ y. IsConsistent w k x.lists x.seats (map updates_in x.fences) y v) (sym (ap (map queued) held ∙ serves.held))
+          (subst (λ y. IsConsistent w k x.lists x.seats y qs v) (sym (ap (map updates_in) fences ∙ serves.fences))
+          (subst (λ y. IsConsistent w k x.lists y (fences_by c us) qs v) (sym seated)
+          (subst (λ y. IsConsistent w k y (changed_at (seat_after us c) t.0 p.seats) (fences_by c us) qs v)
           (sym (lists ∙ serves.lists)) is))));
       plan = plan ∙ keeps.plan;
     }

@@ -31,4 +31,5 @@ pub mod Beginning
 pub mod FirstStep
 pub mod Stepping
 pub mod Values
+pub mod TooLong
 pub mod Ending

@@ -1,20 +1,19 @@
 -- What each batch of the journal is, by its place in its queue.
-use Rattle.std.proofs.Common.{ℕ, zero, suc, ◌≡◌, ◌≢◌, ◌<◌, ◌≤◌, ◌+◌, ◌-◌, ◌∙◌, sym, ap, subst, refl, arith, List, [], ◌∷◌, ◌++◌, length, drop, take, map, Some, None, Option, Bool, true, false, append_assoc, length-append, ◌⊎◌, inl, inr, cond}
+use Rattle.std.proofs.Common.{ℕ, zero, suc, ◌≡◌, ◌+◌, ◌-◌, ◌∙◌, sym, ap, subst, refl, arith, List, [], ◌∷◌, ◌++◌, drop, take, Some, Bool, true, false, inl, inr, cond}
 use Rattle.std.proofs.lemmas.List.{take-append-drop}
 use Rattle.std.proofs.lemmas.Bool.{eqb-true}
 use Rattle.std.proofs.lemmas.Bool.Decides.{eqb_tells}
-use Rattle.std.proofs.lemmas.Option.{slice_get_within}
 use Rattle.std.specs.List.{slice_get}
-use Rattle.std.specs.Prelude.{if◌then◌else◌, ◌==◌, ◌&&◌, nat_lt}
+use Rattle.std.specs.Prelude.{◌==◌, ◌&&◌}
 use Rattle.d3d_machine.specs.declared.world.World.{World}
 use Rattle.d3d_machine.specs.declared.events.Operation.{Operation}
 use Rattle.d3d_machine.specs.declared.events.Event.{Event}
 use Rattle.d3d_machine.specs.Operations.{operations, operations_from, called_by}
 use Rattle.d3d_machine.specs.State.{State, first_state}
 use Rattle.d3d_machine.specs.Effects.{after}
-use Rattle.vk_port.specs.declared.commands.Batch.{Batch}
+use Rattle.vk_types.specs.declared.batches.Batch.{Batch}
 use Rattle.vk_port.specs.Journal.{of_queue, are_numbered}
-use Rattle.sys_core.specs.Lowering.{startup, lowered, lowered_commands}
+use Rattle.sys_core.specs.Lowering.{lowered_commands}
 use Rattle.sys_core.specs.Stands.{IsLowered, AreLowered}
 
 -- the operations that a history called stay the first ones

@@ -48,7 +48,9 @@ operation_none w d q (call.Reset l a) past named = refl
 operation_none w d q (call.Execute p ls) past named =
     pushes_none p.0 q (length w.queues) (operation.Execute (gathered d.lists (map (λ l. l.0) ls))) (list_all (λ l. nat_lt l.0 (length w.lists)) ls) past named
 operation_none w d q (call.Signal p f v) past named = pushes_none p.0 q (length w.queues) (operation.Signal f v) (nat_lt f.0 (length w.fences)) past named
+operation_none w d q (call.HostSignal f v) past named = refl
 operation_none w d q (call.HostWait f v) past named = refl
+operation_none w d q (call.Value f) past named = refl
 operation_none w d q (call.Write b offset ws) past named = refl
 operation_none w d q (call.Read b offset bytes) past named = refl
 

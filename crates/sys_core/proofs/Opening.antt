@@ -1,5 +1,5 @@
 -- The system is consistent before any call, when the start-up batch is submitted.
-use Rattle.std.proofs.Common.{ℕ, zero, suc, ◌≡◌, ◌<◌, ◌≤◌, ◌+◌, ◌-◌, ◌∙◌, sym, ap, subst, refl, arith, List, [], ◌∷◌, ◌++◌, length, map, Some, None, Option, Bool, true, false, get_or, replicate}
+use Rattle.std.proofs.Common.{ℕ, zero, suc, ◌≡◌, ◌<◌, ◌+◌, ◌-◌, ◌∙◌, sym, ap, subst, refl, arith, List, [], ◌∷◌, length, map, Some, None, Option, true, get_or, replicate}
 use Rattle.std.proofs.lemmas.List.{length-map, length-replicate}
 use Rattle.std.proofs.lemmas.Option.{slice_get_within, slice_get-map, slice_get-get_or}
 use Rattle.std.specs.List.{slice_get, list_all}
@@ -8,23 +8,18 @@ use Rattle.std.specs.Prelude.{nat_lt, ◌&&◌}
 use Rattle.dx_base.specs.Lists.{changed_at}
 use Rattle.d3d_machine.specs.declared.world.World.{World}
 use Rattle.d3d_machine.specs.declared.calls.Call.{Call}
-use Rattle.d3d_machine.specs.declared.events.Listed.{Listed}
 use Rattle.d3d_machine.specs.World.{IsWorld}
-use Rattle.d3d_machine.specs.State.{declared_list, opening_place, first_state, value_of}
-use Rattle.d3d_machine.specs.Fences.{applied_updates}
-use Rattle.vk_port.specs.declared.plan.DevicePlan.{DevicePlan}
+use Rattle.d3d_machine.specs.State.{declared_list, opening_place}
+use Rattle.vk_types.specs.declared.plan.DevicePlan.{DevicePlan}
 use Rattle.vk_port.specs.declared.lanes.Lane.{Lane}
-use Rattle.vk_port.specs.Journal.{of_queue, first_number}
-use Rattle.vk_port.specs.Valid.{IsValid, Matches}
-use Rattle.vk_port.specs.VkState.{VkState, lane_of, no_lane, counter_of, first_state as first_device}
+use Rattle.vk_port.specs.Journal.{first_number}
+use Rattle.vk_port.specs.VkState.{VkState, lane_of, no_lane, first_state as first_device}
 use Rattle.vk_port.specs.After.{after_submit, lane_after_submit}
 use Rattle.vk_port.proofs.Valid.{first_valid, submit_valid}
 use Rattle.vk_port.proofs.Matching.{first_matches, submit_matches}
-use Rattle.dx_base.proofs.Lists.{map_alike}
-use Rattle.sys_core.specs.declared.parts.Seat.{Seat}
 use Rattle.sys_core.specs.Lowering.{plan_of_world, startup}
 use Rattle.sys_core.specs.Parts.{Queued, no_queue, opening_seat}
-use Rattle.sys_core.specs.Consistent.{AreSeats, AreFences, IsHeld, AreHeld, IsDevice, IsConsistent, place_from, is_behind, finished_of}
+use Rattle.sys_core.specs.Consistent.{AreFences, IsHeld, AreHeld, IsDevice, IsConsistent, place_from, is_behind, finished_of}
 
 -- the device when the start-up batch is submitted
 abbrev pub opened : World → VkState

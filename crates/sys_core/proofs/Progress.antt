@@ -17,7 +17,7 @@ use Rattle.d3d_machine.specs.State.{called_of}
 use Rattle.d3d_machine.specs.Play.{IsRunButWords, state_after}
 use Rattle.d3d_machine.specs.Operations.{operations, counter}
 use Rattle.d3d_machine.proofs.Named.{all_at}
-use Rattle.vk_port.specs.declared.commands.Batch.{Batch}
+use Rattle.vk_types.specs.declared.batches.Batch.{Batch}
 use Rattle.vk_port.specs.declared.lanes.Running.{Running}
 use Rattle.vk_port.specs.Enabled.{reached, enabled_steps}
 use Rattle.vk_port.specs.Journal.{of_queue}
@@ -29,6 +29,7 @@ use Rattle.vk_port.proofs.Progress.{lane_goes}
 use Rattle.sys_core.specs.Lowering.{startup}
 use Rattle.sys_core.specs.Steps.{is_ready_thread, is_ready_worker, submitted_of, steps_where, always, enabled_of}
 use Rattle.sys_core.specs.Consistent.{IsDevice, finished_of}
+use Rattle.sys_core.specs.Laws.{CanGoOn}
 use Rattle.sys_core.proofs.Ahead.{called_now}
 use Rattle.sys_core.proofs.AheadSteps.{at_first}
 use Rattle.sys_core.proofs.Holding.{slice_get_drop}
@@ -178,3 +179,8 @@ pub queue_goes : (w : World) (h : List Event) (v : VkState) (free q : ℕ) → I
 queue_goes w h v free q world run device within some =
     at_first (λ p. 0 < length (called_of (state_after w h).desk p) → 0 < length (enabled_of w h v free)) q (length w.queues) within
     (omega (arith, world.one_queue)) (first_goes w h v free world run device) some
+
+-- where the Direct3D machine can go on, the system has a step
+pub machine_goes : (w : World) (h : List Event) (v : VkState) (free : ℕ) → IsWorld w → IsRunButWords w h → IsDevice w h v → CanGoOn w h → 0 < length (enabled_of w h v free)
+machine_goes w h v free world run device (inl ready) = thread_goes w h v free ready.0 ready.1 ready.2
+machine_goes w h v free world run device (inr called) = queue_goes w h v free called.0 world run device called.1 called.2

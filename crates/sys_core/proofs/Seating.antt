@@ -1,5 +1,5 @@
 -- The threads' places and the fences' updates after each kind of step.
-use Rattle.std.proofs.Common.{ℕ, zero, suc, ◌≡◌, ◌≢◌, ◌<◌, ◌≤◌, ◌+◌, ◌-◌, ◌∙◌, sym, ap, subst, refl, arith, List, [], ◌∷◌, ◌++◌, length, drop, take, map, Some, None, Option, Bool, true, false, append_assoc, length-append, ◌⊎◌, inl, inr, cond}
+use Rattle.std.proofs.Common.{ℕ, zero, suc, ◌≡◌, ◌<◌, ◌+◌, ◌-◌, ◌∙◌, sym, ap, subst, refl, arith, List, [], ◌∷◌, ◌++◌, length, drop, map, Some, None, Option, Bool, true, false, append_assoc, length-append, inl, inr}
 use Rattle.std.proofs.lemmas.List.{drop-append-le, append-nil}
 use Rattle.std.proofs.lemmas.Bool.Decides.{nat_tests, eqb_tells}
 use Rattle.std.proofs.lemmas.List.Folds.{list_any-append}
@@ -11,7 +11,7 @@ use Rattle.std.specs.Option.{option_map}
 use Rattle.std.specs.Prelude.{if◌then◌else◌, ◌==◌, ◌&&◌, ◌||◌, nat_lt, nat_le}
 use Rattle.dx_base.specs.Lists.{changed_at}
 use Rattle.dx_base.specs.declared.hresult.Hresult.{Hresult}
-use Rattle.dx_base.proofs.Lists.{map_changed, map_alike}
+use Rattle.dx_base.proofs.Lists.{map_changed, map_alike, get_changed, get_changed_other, length_changed}
 use Rattle.d3d_machine.specs.declared.world.World.{World}
 use Rattle.d3d_machine.specs.declared.calls.Call.{Call}
 use Rattle.d3d_machine.specs.declared.calls.Call.TheVariants as call
@@ -20,14 +20,15 @@ use Rattle.d3d_machine.specs.declared.events.Operation.{Operation}
 use Rattle.d3d_machine.specs.declared.events.Operation.TheVariants as operation
 use Rattle.d3d_machine.specs.declared.events.Event.{Event}
 use Rattle.d3d_machine.specs.declared.events.Event.TheVariants as event
-use Rattle.d3d_machine.specs.State.{Waiting, Place, Desk, State, first_state, list_of, is_recording, value_of}
+use Rattle.d3d_machine.specs.State.{Place, Desk, State, first_state, list_of, is_recording, value_of}
 use Rattle.d3d_machine.specs.Replies.{refusal}
-use Rattle.d3d_machine.specs.Effects.{after, after_all, desk_after, desk_after_call, desk_or, effect, after_refused, failed_if, counted, begins_wait, marked_place, marked_option, marked_wait, takes_value, head_of, woken, pushed, dropped, desk_after_operation}
+use Rattle.d3d_machine.specs.Effects.{after, after_all, desk_after_call, desk_or, effect, after_refused, failed_if, counted, begins_wait, marked_place, head_of, dropped, desk_after_operation}
 use Rattle.d3d_machine.specs.Play.{state_after}
-use Rattle.d3d_machine.specs.Fences.{update_of, update_of_operation, updates_from, applied_updates, is_met}
+use Rattle.d3d_machine.specs.Fences.{update_of, update_of_call, update_of_operation, updates_from, applied_updates, is_met}
 use Rattle.sys_core.specs.declared.parts.Armed.{Armed}
 use Rattle.sys_core.specs.declared.parts.Seat.{Seat}
-use Rattle.sys_core.specs.Consistent.{waiting_from, place_from, is_armed_met, is_behind, AreSeats, AreFences}
+use Rattle.sys_core.specs.Parts.{fences_by}
+use Rattle.sys_core.specs.Consistent.{waiting_from, place_from, is_behind, AreSeats, AreFences}
 
 and_both : (a b : Bool) → (a && b) ≡ true → (a ≡ true) × (b ≡ true)
 and_both true b h = (refl, h)
@@ -86,7 +87,9 @@ call_place d (call.Close l) p = record p { made = p.made + 1 }
 call_place d (call.Reset l a) p = record p { made = p.made + 1 }
 call_place d (call.Execute q ls) p = record p { made = p.made + 1 }
 call_place d (call.Signal q f v) p = record p { made = p.made + 1 }
+call_place d (call.HostSignal f v) p = record p { made = p.made + 1 }
 call_place d (call.HostWait f v) p = record { made = p.made + 1; waits = Some (record { fence = f.0; value = v; marked = nat_le v (value_of d f.0) }) }
+call_place d (call.Value f) p = record p { made = p.made + 1 }
 call_place d (call.Write b o ws) p = record p { made = p.made + 1 }
 call_place d (call.Read b o n) p = record p { made = p.made + 1 }
 
@@ -100,24 +103,65 @@ refused_keeps d (call.Close l) = failed_keeps (is_recording (list_of d.lists l.0
 refused_keeps d (call.Reset l a) = refl
 refused_keeps d (call.Execute p ls) = refl
 refused_keeps d (call.Signal p f v) = refl
+refused_keeps d (call.HostSignal f v) = refl
 refused_keeps d (call.HostWait f v) = refl
+refused_keeps d (call.Value f) = refl
 refused_keeps d (call.Write b offset ws) = refl
 refused_keeps d (call.Read b offset bytes) = refl
 
--- a call that is refused, or that begins no wait, only counts
-plain_step : (r : Option Hresult) (w : World) (d : Desk) (t : ℕ) (c : Call) → (effect w d t c).threads ≡ d.threads →
-    (counted t (desk_or r (effect w d t c) (after_refused d c))).threads ≡ changed_at (λ p. record p { made = p.made + 1 }) t d.threads
-plain_step None w d t c same = ap (changed_at (λ p. record p { made = p.made + 1 }) t) same
-plain_step (Some e) w d t c same = ap (changed_at (λ p. record p { made = p.made + 1 }) t) (refused_keeps d c)
+map_same : {A : Type 0} (xs : List A) → map (λ x. x) xs ≡ xs
+map_same [] = refl
+map_same (x ∷ xs) = ap (λ ys. x ∷ ys) (map_same xs)
 
-pub threads_after_call : (w : World) (d : Desk) (t : ℕ) (c : Call) → (desk_after_call w d t c).threads ≡ changed_at (call_place d c) t d.threads
+-- what a signal does to a thread's place: a completed one, or the host's
+abbrev pub marked_by : Option Operation → Place → Place
+marked_by None p = p
+marked_by (Some (operation.Execute cs)) p = p
+marked_by (Some (operation.Signal g v)) p = marked_place g.0 v p
+
+-- the signal that a call is, where it is one
+abbrev pub signal_in : Call → Option Operation
+signal_in (call.Recording l what) = None
+signal_in (call.Close l) = None
+signal_in (call.Reset l a) = None
+signal_in (call.Execute q ls) = None
+signal_in (call.Signal q f v) = None
+signal_in (call.HostSignal f v) = Some (operation.Signal f v)
+signal_in (call.HostWait f v) = None
+signal_in (call.Value f) = None
+signal_in (call.Write b o ws) = None
+signal_in (call.Read b o n) = None
+
+pub update_in : (f : ℕ) (c : Call) → update_of_call f c ≡ update_of_operation f (signal_in c)
+update_in f (call.Recording l what) = refl
+update_in f (call.Close l) = refl
+update_in f (call.Reset l a) = refl
+update_in f (call.Execute q ls) = refl
+update_in f (call.Signal q g v) = refl
+update_in f (call.HostSignal g v) = refl
+update_in f (call.HostWait g v) = refl
+update_in f (call.Value g) = refl
+update_in f (call.Write b o ws) = refl
+update_in f (call.Read b o n) = refl
+
+-- a call that is refused, or that begins no wait and gives no fence a value, only counts
+plain_step : (r : Option Hresult) (w : World) (d : Desk) (t : ℕ) (c : Call) → (effect w d t c).threads ≡ d.threads →
+    (counted t (desk_or r (effect w d t c) (after_refused d c))).threads ≡ changed_at (λ p. record p { made = p.made + 1 }) t (map (λ p. p) d.threads)
+plain_step None w d t c same = ap (changed_at (λ p. record p { made = p.made + 1 }) t) (same ∙ sym (map_same d.threads))
+plain_step (Some e) w d t c same = ap (changed_at (λ p. record p { made = p.made + 1 }) t) (refused_keeps d c ∙ sym (map_same d.threads))
+
+-- the threads' places after a call: a host signal meets waits, and the caller's place moves
+pub threads_after_call : (w : World) (d : Desk) (t : ℕ) (c : Call) → (desk_after_call w d t c).threads ≡ changed_at (call_place d c) t (map (marked_by (signal_in c)) d.threads)
 threads_after_call w d t (call.Recording l what) = plain_step (refusal w d (call.Recording l what)) w d t (call.Recording l what) refl
 threads_after_call w d t (call.Close l) = plain_step (refusal w d (call.Close l)) w d t (call.Close l) refl
 threads_after_call w d t (call.Reset l a) = plain_step (refusal w d (call.Reset l a)) w d t (call.Reset l a) refl
 threads_after_call w d t (call.Execute q ls) = plain_step (refusal w d (call.Execute q ls)) w d t (call.Execute q ls) refl
-threads_after_call w d t (call.Signal q f v) = refl
+threads_after_call w d t (call.Signal q f v) = plain_step None w d t (call.Signal q f v) refl
+threads_after_call w d t (call.HostSignal f v) = refl
 threads_after_call w d t (call.HostWait f v) =
     changed_twice (begins_wait (value_of d f.0) f.0 v) (λ p. record p { made = p.made + 1 }) t d.threads
+    ∙ ap (changed_at (call_place d (call.HostWait f v)) t) (sym (map_same d.threads))
+threads_after_call w d t (call.Value f) = plain_step None w d t (call.Value f) refl
 threads_after_call w d t (call.Write b o ws) = plain_step (refusal w d (call.Write b o ws)) w d t (call.Write b o ws) refl
 threads_after_call w d t (call.Read b o n) = plain_step (refusal w d (call.Read b o n)) w d t (call.Read b o n) refl
 
@@ -128,7 +172,9 @@ armed_by w h (call.Close l) o = o
 armed_by w h (call.Reset l a) o = o
 armed_by w h (call.Execute q ls) o = o
 armed_by w h (call.Signal q f v) o = o
+armed_by w h (call.HostSignal f v) o = o
 armed_by w h (call.HostWait f v) o = Some (record { fence = f; value = v; since = length (applied_updates w h f.0) - 1 })
+armed_by w h (call.Value f) o = o
 armed_by w h (call.Write b n ws) o = o
 armed_by w h (call.Read b n k) o = o
 
@@ -146,21 +192,26 @@ names_a_fence w (call.Close l) = Unit {0}
 names_a_fence w (call.Reset l a) = Unit {0}
 names_a_fence w (call.Execute q ls) = Unit {0}
 names_a_fence w (call.Signal q f v) = Unit {0}
+names_a_fence w (call.HostSignal f v) = Unit {0}
 names_a_fence w (call.HostWait f v) = f.0 < length w.fences
+names_a_fence w (call.Value f) = Unit {0}
 names_a_fence w (call.Write b n ws) = Unit {0}
 names_a_fence w (call.Read b n k) = Unit {0}
 
-call_place_is : (w : World) (h : List Event) (c : Call) → LastIsValue w h → names_a_fence w c → (s : Seat) →
-    place_from w h (call_seat w h c s) ≡ call_place (state_after w h).desk c (place_from w h s)
-call_place_is w h (call.Recording l what) last named s = refl
-call_place_is w h (call.Close l) last named s = refl
-call_place_is w h (call.Reset l a) last named s = refl
-call_place_is w h (call.Execute q ls) last named s = refl
-call_place_is w h (call.Signal q f v) last named s = refl
-call_place_is w h (call.HostWait f v) last named s =
-    ap (λ b. let p : Place = record { made = s.made + 1; waits = Some (record { fence = f.0; value = v; marked = b }) } in p) (last f.0 v named)
-call_place_is w h (call.Write b n ws) last named s = refl
-call_place_is w h (call.Read b n k) last named s = refl
+call_place_is : (w : World) (h : List Event) (t : ThreadId) (c : Call) (r : Reply) → LastIsValue w h → names_a_fence w c → (s : Seat) →
+    place_from w (h ++ event.Call t c r ∷ []) (call_seat w h c s) ≡ call_place (state_after w h).desk c (place_from w (h ++ event.Call t c r ∷ []) s)
+call_place_is w h t (call.Recording l what) r last named s = refl
+call_place_is w h t (call.Close l) r last named s = refl
+call_place_is w h t (call.Reset l a) r last named s = refl
+call_place_is w h t (call.Execute q ls) r last named s = refl
+call_place_is w h t (call.Signal q f v) r last named s = refl
+call_place_is w h t (call.HostSignal f v) r last named s = refl
+call_place_is w h t (call.HostWait f v) r last named s =
+    ap (λ b. let p : Place = record { made = s.made + 1; waits = Some (record { fence = f.0; value = v; marked = b }) } in p)
+    (ap (λ us. is_met us (length (applied_updates w h f.0) - 1) v) (applied_same w h (event.Call t (call.HostWait f v) r) f.0 refl) ∙ last f.0 v named)
+call_place_is w h t (call.Value f) r last named s = refl
+call_place_is w h t (call.Write b n ws) r last named s = refl
+call_place_is w h t (call.Read b n k) r last named s = refl
 
 behind_call : (w : World) (h : List Event) (c : Call) (o : Option Armed) → names_a_fence w c → is_behind w h o ≡ true → is_behind w h (armed_by w h c o) ≡ true
 behind_call w h (call.Recording l what) o named is = is
@@ -168,7 +219,9 @@ behind_call w h (call.Close l) o named is = is
 behind_call w h (call.Reset l a) o named is = is
 behind_call w h (call.Execute q ls) o named is = is
 behind_call w h (call.Signal q f v) o named is = is
+behind_call w h (call.HostSignal f v) o named is = is
 behind_call w h (call.HostWait f v) o named is = grind (arith, nat_tests)
+behind_call w h (call.Value f) o named is = is
 behind_call w h (call.Write b n ws) o named is = is
 behind_call w h (call.Read b n k) o named is = is
 
@@ -186,21 +239,6 @@ all_alike p q [] keeps all = refl
 all_alike p q (x ∷ xs) keeps all =
     let both : (p x ≡ true) × (list_all p xs ≡ true) = and_both (p x) (list_all p xs) all in
     and_of (q x) (list_all q xs) (keeps x both.0) (all_alike p q xs keeps both.1)
-
--- the places after a call
-pub seats_call : (w : World) (h : List Event) (t : ThreadId) (c : Call) (r : Reply) (seats : List Seat) → AreSeats w h seats → LastIsValue w h → names_a_fence w c →
-    AreSeats w (h ++ event.Call t c r ∷ []) (changed_at (call_seat w h c) t.0 seats)
-seats_call w h t c r seats are last named =
-    let e : Event = event.Call t c r in
-    record {
-      threads = ap (λ (s : State). s.desk.threads) (state_append w h e) ∙ threads_after_call w (state_after w h).desk t.0 c
-          ∙ ap (changed_at (call_place (state_after w h).desk c) t.0) are.threads
-          ∙ sym (map_changed (place_from w h) (call_seat w h c) (call_place (state_after w h).desk c) t.0 seats (call_place_is w h c last named))
-          ∙ sym (map_alike (place_from w (h ++ e ∷ [])) (place_from w h) (changed_at (call_seat w h c) t.0 seats) (place_same w h e (λ f. refl)));
-      behind = all_alike (λ s. is_behind w h s.waits) (λ s. is_behind w (h ++ e ∷ []) s.waits) (changed_at (call_seat w h c) t.0 seats)
-          (λ s is. behind_same w h e (λ f. refl) s.waits ∙ is)
-          (all_changed (λ s. is_behind w h s.waits) (call_seat w h c) t.0 seats are.behind (λ s is. behind_call w h c s.waits named is));
-    }
 
 -- the places after a waking
 pub seats_awake : (w : World) (h : List Event) (t : ThreadId) (seats : List Seat) → AreSeats w h seats →
@@ -236,16 +274,6 @@ met_more us f g v value since within =
     one : (a b : Bool) → a ≡ b → list_any (λ u. nat_le value u) (if a then v ∷ [] else []) ≡ (b && nat_le value v)
     one true b is = or_false (nat_le value v) ∙ ap (λ c. c && nat_le value v) is
     one false b is = ap (λ c. c && nat_le value v) is
-
-map_same : {A : Type 0} (xs : List A) → map (λ x. x) xs ≡ xs
-map_same [] = refl
-map_same (x ∷ xs) = ap (λ ys. x ∷ ys) (map_same xs)
-
--- what a completed operation does to a thread's place
-abbrev pub marked_by : Option Operation → Place → Place
-marked_by None p = p
-marked_by (Some (operation.Execute cs)) p = p
-marked_by (Some (operation.Signal g v)) p = marked_place g.0 v p
 
 threads_complete : (d : Desk) (o : Option Operation) (q : ℕ) → (desk_after_operation (dropped d q) o).threads ≡ map (marked_by o) d.threads
 threads_complete d None q = sym (map_same d.threads)
@@ -315,3 +343,70 @@ seats_complete w h q seats are =
       behind = all_alike (λ s. is_behind w h s.waits) (λ s. is_behind w (h ++ e ∷ []) s.waits) seats
           (λ s is. still_behind w h (h ++ e ∷ []) (head_of d q.0) (applied_complete w h q) s.waits is) are.behind;
     }
+
+-- the places after a call
+pub seats_call : (w : World) (h : List Event) (t : ThreadId) (c : Call) (r : Reply) (seats : List Seat) → AreSeats w h seats → LastIsValue w h → names_a_fence w c →
+    AreSeats w (h ++ event.Call t c r ∷ []) (changed_at (call_seat w h c) t.0 seats)
+seats_call w h t c r seats are last named =
+    let e : Event = event.Call t c r in
+    let k : List Event = h ++ e ∷ [] in
+    let d : Desk = (state_after w h).desk in
+    let o : Option Operation = signal_in c in
+    let more : (f : ℕ) → applied_updates w k f ≡ applied_updates w h f ++ update_of_operation f o =
+    λ f. applied_append w h e f ∙ ap (λ us. applied_updates w h f ++ us) (update_in f c) in
+    record {
+      threads = ap (λ (s : State). s.desk.threads) (state_append w h e) ∙ threads_after_call w d t.0 c
+          ∙ ap (λ ps. changed_at (call_place d c) t.0 (map (marked_by o) ps)) are.threads
+          ∙ ap (changed_at (call_place d c) t.0) (map_map (marked_by o) (place_from w h) seats
+          ∙ sym (map_alike_on (λ s. is_behind w h s.waits) (place_from w k) (λ s. marked_by o (place_from w h s)) seats are.behind (marked_place_is w h k o more)))
+          ∙ sym (map_changed (place_from w k) (call_seat w h c) (call_place d c) t.0 seats (call_place_is w h t c r last named));
+      behind = all_alike (λ s. is_behind w h s.waits) (λ s. is_behind w k s.waits) (changed_at (call_seat w h c) t.0 seats)
+          (λ s is. still_behind w h k o more s.waits is)
+          (all_changed (λ s. is_behind w h s.waits) (call_seat w h c) t.0 seats are.behind (λ s is. behind_call w h c s.waits named is));
+    }
+
+-- a fence's updates, after one update more of a fence
+pub update_pushed : (g f v : ℕ) (fences : List (List ℕ)) (us : List ℕ) → slice_get fences f ≡ Some us →
+    slice_get (changed_at (λ xs. xs ++ v ∷ []) g fences) f ≡ Some (us ++ (if (g == f) then v ∷ [] else []))
+update_pushed g f v fences us is =
+    elim (eqb_tells g f) [
+      | inl same ↦
+          subst (λ k. slice_get (changed_at (λ xs. xs ++ v ∷ []) k fences) f ≡ Some (us ++ v ∷ [])) (sym same.1) (get_changed (λ xs. xs ++ v ∷ []) fences f ∙ ap (option_map (λ xs. xs ++ v ∷ [])) is)
+          ∙ ap (λ t. Some (us ++ (if t then v ∷ [] else []))) (sym same.0)
+      | inr other ↦
+          get_changed_other (λ xs. xs ++ v ∷ []) fences g f other.1 ∙ is ∙ ap (λ xs. Some xs) (sym (append-nil us)) ∙ ap (λ t. Some (us ++ (if t then v ∷ [] else []))) (sym other.0)
+    ]
+
+-- the fences' updates after a call
+pub fence_called : (c : Call) (fences : List (List ℕ)) (f : ℕ) (us : List ℕ) → slice_get fences f ≡ Some us →
+    slice_get (fences_by c fences) f ≡ Some (us ++ update_of_call f c)
+fence_called (call.Recording l what) fences f us is = is ∙ ap (λ xs. Some xs) (sym (append-nil us))
+fence_called (call.Close l) fences f us is = is ∙ ap (λ xs. Some xs) (sym (append-nil us))
+fence_called (call.Reset l a) fences f us is = is ∙ ap (λ xs. Some xs) (sym (append-nil us))
+fence_called (call.Execute q ls) fences f us is = is ∙ ap (λ xs. Some xs) (sym (append-nil us))
+fence_called (call.Signal q g v) fences f us is = is ∙ ap (λ xs. Some xs) (sym (append-nil us))
+fence_called (call.HostSignal g v) fences f us is = update_pushed g.0 f v fences us is
+fence_called (call.HostWait g v) fences f us is = is ∙ ap (λ xs. Some xs) (sym (append-nil us))
+fence_called (call.Value g) fences f us is = is ∙ ap (λ xs. Some xs) (sym (append-nil us))
+fence_called (call.Write b o ws) fences f us is = is ∙ ap (λ xs. Some xs) (sym (append-nil us))
+fence_called (call.Read b o n) fences f us is = is ∙ ap (λ xs. Some xs) (sym (append-nil us))
+
+fences_length : (c : Call) (fences : List (List ℕ)) → length (fences_by c fences) ≡ length fences
+fences_length (call.Recording l what) fences = refl
+fences_length (call.Close l) fences = refl
+fences_length (call.Reset l a) fences = refl
+fences_length (call.Execute q ls) fences = refl
+fences_length (call.Signal q f v) fences = refl
+fences_length (call.HostSignal f v) fences = length_changed (λ us. us ++ v ∷ []) fences f.0
+fences_length (call.HostWait f v) fences = refl
+fences_length (call.Value f) fences = refl
+fences_length (call.Write b o ws) fences = refl
+fences_length (call.Read b o n) fences = refl
+
+pub fences_call : (w : World) (h : List Event) (t : ThreadId) (c : Call) (r : Reply) (fences : List (List ℕ)) → AreFences w h fences →
+    AreFences w (h ++ event.Call t c r ∷ []) (fences_by c fences)
+fences_call w h t c r fences are = record {
+  count = fences_length c fences ∙ are.count;
+  each = λ f within. fence_called c fences f (applied_updates w h f) (are.each f within)
+      ∙ ap (λ us. Some us) (sym (applied_append w h (event.Call t c r) f));
+}

@@ -1,5 +1,5 @@
 -- What the calls on lists do, in the machine's words.
-use Rattle.std.proofs.Common.{ℕ, ◌≡◌, ◌∙◌, sym, ap, refl, List, Some, None, Option}
+use Rattle.std.proofs.Common.{ℕ, zero, suc, ◌≡◌, ◌∙◌, ap, refl, List, [], ◌∷◌, map, slice_get, Some, None, Option}
 use Rattle.dx_base.specs.declared.ids.ListId.{ListId}
 use Rattle.dx_base.specs.declared.ids.QueueId.{QueueId}
 use Rattle.dx_base.specs.declared.ids.AllocatorId.{AllocatorId}
@@ -14,7 +14,8 @@ use Rattle.d3d_machine.specs.Effects.{memory_or, written}
 use Rattle.d3d_machine.specs.Lists.{lists_after_record, lists_after_close, lists_after_reset}
 use Rattle.d3d_machine.proofs.CallsOnLists.{record_lists, close_lists, reset_lists, execute_lists}
 use Rattle.vk_port.specs.VkState.{VkState}
-use Rattle.sys_core.specs.Parts.{lists_by, desk_of, device_by}
+use Rattle.sys_core.specs.Parts.{lists_by, desk_of, device_by, updates_at}
+use Rattle.sys_core.specs.Values.{last_of}
 
 pub record_lists_by : (w : World) (lists : List Listed) (l : ListId) (what : Record) → lists_by w lists (call.Recording l what) ≡ lists_after_record w lists l.0 what
 record_lists_by w lists l what = record_lists w (desk_of lists) 0 l what
@@ -37,3 +38,9 @@ pub device_stays : (w : World) (lists : List Listed) (v : VkState) (c : Call) �
 device_stays w lists v c same =
     let vs : List (List ℕ) → VkState = λ ws. record v { words = ws } in
     ap (λ ws. vs (memory_or (refusal w (desk_of lists) c) ws v.words)) same ∙ ap vs (memory_same (refusal w (desk_of lists) c) v.words)
+
+-- the value of a fence is its last update
+pub value_seen : (fences : List (List ℕ)) (f : ℕ) → last_of (updates_at fences f) ≡ elim (slice_get (map last_of fences) f) [ None ↦ 0 | Some v ↦ v ]
+value_seen [] f = refl
+value_seen (us ∷ fences) zero = refl
+value_seen (us ∷ fences) (suc f) = value_seen fences f

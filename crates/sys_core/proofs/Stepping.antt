@@ -1,5 +1,5 @@
 -- Each step of the system leaves less work or fewer free steps, and what the history and the device say of each other.
-use Rattle.std.proofs.Common.{ℕ, ◌≡◌, ◌<◌, ◌≤◌, ◌+◌, ◌∙◌, sym, ap, subst, refl, arith, List, [], ◌∷◌, ◌++◌, length, Some, None, Option, true, append-nil, inl, inr}
+use Rattle.std.proofs.Common.{ℕ, ◌≡◌, ◌<◌, ◌≤◌, ◌+◌, ◌∙◌, sym, ap, subst, refl, arith, List, [], ◌∷◌, ◌++◌, length, map, Some, None, Option, true, append-nil, inl, inr}
 use Rattle.std.proofs.lemmas.Bool.{ltb-true}
 use Rattle.std.proofs.lemmas.Bool.Decides.{leb_tells}
 use Rattle.std.specs.List.{slice_get}
@@ -14,8 +14,8 @@ use Rattle.d3d_machine.specs.declared.events.Event.TheVariants as event
 use Rattle.d3d_machine.specs.State.{Waiting, place_of, script_of, next_call}
 use Rattle.d3d_machine.specs.Play.{IsRunButWords, is_marked, state_after}
 use Rattle.d3d_machine.specs.Operations.{operations}
-use Rattle.vk_port.specs.declared.commands.Batch.{Batch}
-use Rattle.vk_port.specs.declared.plan.DevicePlan.{DevicePlan}
+use Rattle.vk_types.specs.declared.batches.Batch.{Batch}
+use Rattle.vk_types.specs.declared.plan.DevicePlan.{DevicePlan}
 use Rattle.vk_port.specs.declared.steps.Stepped.{Stepped}
 use Rattle.vk_port.specs.declared.steps.Stepped.TheVariants as stepped
 use Rattle.vk_port.specs.After.{after_step, after_submit}
@@ -24,11 +24,12 @@ use Rattle.vk_port.specs.VkState.{VkState}
 use Rattle.vk_port.proofs.Lists.{item_at}
 use Rattle.sys_core.specs.declared.parts.Parts.{Parts}
 use Rattle.sys_core.specs.Lowering.{lowered}
-use Rattle.sys_core.specs.Parts.{reply_by, device_by}
+use Rattle.sys_core.specs.Parts.{updates_in, reply_by, device_by}
 use Rattle.sys_core.specs.Steps.{is_ready_thread, is_ready_worker, thread_event, place_event, call_event, seen_state, after_event, submitted_of, submitted_batches, next_batch, after_submits, step_events, IsDeviceStep}
 use Rattle.sys_core.specs.Work.{work}
 use Rattle.sys_core.specs.Ahead.{IsWhole}
 use Rattle.sys_core.specs.Keeps.{Keeps}
+use Rattle.sys_core.proofs.Values.{values_are}
 use Rattle.sys_core.proofs.Threading.{reply_seen, device_seen}
 use Rattle.sys_core.proofs.Whole.{whole_call, whole_awake, whole_submit, whole_step}
 use Rattle.sys_core.proofs.Work.{call_falls, awake_falls, submit_falls, device_falls}
@@ -57,10 +58,11 @@ module _ {D : Type 0} (state : D → VkState) (plan_of : D → Option DevicePlan
 
   -- a thread that makes its next call
   call_went : (t : ThreadId) (c : Call) → (place_of (state_after w h).desk t.0).waits ≡ None → next_call w (state_after w h).desk t.0 ≡ Some c →
-      (a b : ℕ) → b ≡ a → Goes w h (h ++ event.Call t c (reply_by w p.lists (state d) c) ∷ []) (state d) (device_by w p.lists (state d) c) a b
+      (a b : ℕ) → b ≡ a → Goes w h (h ++ event.Call t c (reply_by w p.lists (map updates_in p.fences) (state d) c) ∷ []) (state d) (device_by w p.lists (state d) c) a b
   call_went t c waits next a b same = record {
-    falls = omega (arith, call_falls w h (state d) (device_by w p.lists (state d) c) t c (reply_by w p.lists (state d) c) next refl refl, same);
-    whole = whole_call w h p.lists (state d) t c keeps.consistent.world keeps.consistent.run keeps.consistent.device keeps.consistent.lists_are waits next;
+    falls = omega (arith, call_falls w h (state d) (device_by w p.lists (state d) c) t c (reply_by w p.lists (map updates_in p.fences) (state d) c) next refl refl, same);
+    whole = whole_call w h p.lists (map updates_in p.fences) (state d) t c keeps.consistent.world keeps.consistent.run keeps.consistent.device keeps.consistent.lists_are
+        (values_are w h (map updates_in p.fences) keeps.consistent.fences_are) waits next;
   }
 
   -- a thread's step, of the event that it makes
@@ -87,7 +89,7 @@ module _ {D : Type 0} (state : D → VkState) (plan_of : D → Option DevicePlan
           (sym (ap (λ (o : Option Waiting). elim o [ None ↦ nat_lt made (length (script_of w t.0)) | Some y ↦ y.marked ]) waits) ∙ ready) in
           let found : (c : Call) × (next_call w (state_after w h).desk t.0 ≡ Some c) = item_at (script_of w t.0) made left in
           let c : Call = found.0 in
-          let r : Reply = reply_by w p.lists (state d) c in
+          let r : Reply = reply_by w p.lists (map updates_in p.fences) (state d) c in
           let is : thread_event w h (state d) t.0 ≡ event.Call t c r =
           ap (place_event w (seen_state w h (state d)) t.0) waits
           ∙ ap (call_event w (seen_state w h (state d)) t.0) found.1

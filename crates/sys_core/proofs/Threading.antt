@@ -1,11 +1,10 @@
 -- What a thread's step needs, and what its event is.
-use Rattle.std.proofs.Common.{ℕ, zero, suc, ◌≡◌, ◌<◌, ◌≤◌, ◌+◌, ◌-◌, ◌∙◌, sym, ap, subst, refl, arith, List, [], ◌∷◌, ◌++◌, length, map, Some, None, Option, Bool, true, false, get_or, set, cond, ◌⊎◌, inl, inr}
+use Rattle.std.proofs.Common.{ℕ, ◌≡◌, ◌<◌, ◌∙◌, sym, ap, refl, arith, List, [], length, map, Some, None, Option, true, set, inl, inr}
 use Rattle.std.proofs.lemmas.Bool.{ltb-true}
 use Rattle.std.proofs.lemmas.List.{length-map}
-use Rattle.std.proofs.lemmas.Option.{slice_get_within, slice_get_past, slice_get-map, slice_get_cases}
+use Rattle.std.proofs.lemmas.Option.{slice_get_past, slice_get_cases}
 use Rattle.std.specs.List.{slice_get}
 use Rattle.std.specs.Option.{option_map}
-use Rattle.std.specs.Prelude.{nat_lt}
 use Rattle.dx_base.specs.Lists.{changed_at}
 use Rattle.dx_base.specs.declared.ids.ThreadId.{ThreadId}
 use Rattle.dx_base.proofs.Lists.{set_is_changed}
@@ -21,18 +20,19 @@ use Rattle.d3d_machine.specs.Effects.{memory_or, written}
 use Rattle.d3d_machine.specs.Play.{state_after}
 use Rattle.d3d_machine.proofs.Shape.{run_has_shape}
 use Rattle.d3d_machine.proofs.Named.{next_is_named}
-use Rattle.vk_port.specs.declared.plan.DevicePlan.{DevicePlan}
+use Rattle.vk_types.specs.declared.plan.DevicePlan.{DevicePlan}
 use Rattle.vk_port.specs.VkState.{VkState}
 use Rattle.sys_core.specs.declared.parts.Armed.{Armed}
 use Rattle.sys_core.specs.declared.parts.Seat.{Seat}
 use Rattle.sys_core.specs.declared.parts.Parts.{Parts}
-use Rattle.sys_core.specs.Parts.{queued, updates_in, reply_by, device_by, seat_after}
+use Rattle.sys_core.specs.Parts.{queued, updates_in, state_by, reply_by, device_by, seat_after}
 use Rattle.sys_core.specs.Steps.{is_ready_thread, is_ready_place, thread_event, place_event, call_event, seen_state, after_event}
 use Rattle.sys_core.specs.Consistent.{place_from, waiting_from}
 use Rattle.sys_core.specs.Serving.{HasBuffers}
 use Rattle.sys_core.specs.Keeps.{Keeps, ready_by}
 use Rattle.sys_core.proofs.Buffers.{has_buffers}
-use Rattle.sys_core.proofs.Calling.{refusal_is}
+use Rattle.sys_core.proofs.Calling.{refusal_is, good_alike}
+use Rattle.sys_core.proofs.Values.{values_are}
 use Rattle.sys_core.proofs.Keeping.{place_is, ready_is}
 
 -- a thread's place written after a call
@@ -93,12 +93,15 @@ module _ {D : Type 0} (state : D → VkState) (plan_of : D → Option DevicePlan
   awake_event t s a at waits =
       sym (ap (place_event w (seen_state w h (state d)) t.0) (waits_is t.0 s at ∙ ap (option_map (waiting_from w h)) waits))
 
-  pub reply_seen : (c : Call) → reply_by w p.lists (state d) c ≡ reply_of w (seen_state w h (state d)) c
-  reply_seen c = ap (λ r. reply_or r (good_reply (state d).words c)) (refusal_is w (state_after w h).desk p.lists c keeps.consistent.lists_are)
+  pub reply_seen : (c : Call) → reply_by w p.lists (map updates_in p.fences) (state d) c ≡ reply_of w (seen_state w h (state d)) c
+  reply_seen c =
+      ap (λ r. reply_or r (good_reply (state_by p.lists (map updates_in p.fences) (state d)) c)) (refusal_is w (state_after w h).desk p.lists c keeps.consistent.lists_are)
+      ∙ ap (reply_or (refusal w (state_after w h).desk c))
+      (good_alike c (state_by p.lists (map updates_in p.fences) (state d)) (seen_state w h (state d)) (values_are w h (map updates_in p.fences) keeps.consistent.fences_are) refl)
 
   -- the event of a thread that makes its next call
   pub call_event_is : (t : ThreadId) (s : Seat) (c : Call) → slice_get p.seats t.0 ≡ Some s → s.waits ≡ None → slice_get (script_of w t.0) s.made ≡ Some c →
-      event.Call t c (reply_by w p.lists (state d) c) ≡ thread_event w h (state d) t.0
+      event.Call t c (reply_by w p.lists (map updates_in p.fences) (state d) c) ≡ thread_event w h (state d) t.0
   call_event_is t s c at waits next =
       ap (event.Call t c) (reply_seen c)
       ∙ sym (ap (place_event w (seen_state w h (state d)) t.0) (waits_is t.0 s at ∙ ap (option_map (waiting_from w h)) waits)

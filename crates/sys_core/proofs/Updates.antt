@@ -6,9 +6,10 @@ use Rattle.std.proofs.Common.{◌<◌, ◌≤◌, ◌++◌, sym, subst, length, 
 use Rattle.std.proofs.lemmas.List.{length-map}
 use Rattle.std.proofs.lemmas.Option.{slice_get_within, slice_get_read}
 use Rattle.std.specs.Prelude.{◌==◌, if◌then◌else◌}
+use Rattle.dx_base.specs.Lists.{changed_at}
 use Rattle.dx_base.proofs.Lists.{changed_past}
 use Rattle.sys_core.specs.declared.parts.Signalled.{Signalled}
-use Rattle.sys_core.specs.Parts.{updates_in, updates_at, updated_by, with_number, HasRoomAt, HasRoomFor}
+use Rattle.sys_core.specs.Parts.{updates_in, updates_at, with_number, HasRoomAt, HasRoomFor}
 
 pub updates_of_none : (fences : List (Roomy ℕ)) (f : ℕ) → slice_get fences f ≡ None → updates_at (map updates_in fences) f ≡ []
 updates_of_none [] f is = refl
@@ -38,8 +39,8 @@ pub room_lent : (fences : List (Roomy ℕ)) (f : ℕ) (x : Roomy ℕ) → f < le
 room_lent fences f x within lent room = room.room x (slice_get_read fences (length fences) f x refl within lent)
 
 -- an update of a fence that is not there changes nothing
-pub updated_past : (fences : List (Roomy ℕ)) (s : Signalled) → length fences ≤ s.fence.0 → map updates_in fences ≡ updated_by (Some s) (map updates_in fences)
-updated_past fences s past = sym (changed_past (λ us. us ++ s.value ∷ []) (map updates_in fences) s.fence.0 (omega (arith, length-map fences updates_in)))
+pub updated_past : (fences : List (Roomy ℕ)) (f v : ℕ) → length fences ≤ f → map updates_in fences ≡ changed_at (λ us. us ++ v ∷ []) f (map updates_in fences)
+updated_past fences f v past = sym (changed_past (λ us. us ++ v ∷ []) (map updates_in fences) f (omega (arith, length-map fences updates_in)))
 
 -- room for a signal is room for it where its number is asked for
 pub room_numbered : (n : ℕ) (o : Option Signalled) (fences : List (Roomy ℕ)) → HasRoomFor o fences → HasRoomFor (with_number n o) fences

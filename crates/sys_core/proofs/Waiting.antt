@@ -10,7 +10,7 @@ use Rattle.d3d_machine.specs.declared.events.Operation.{Operation}
 use Rattle.d3d_machine.specs.declared.events.Operation.TheVariants.{Execute, Signal}
 use Rattle.d3d_machine.specs.declared.events.Event.{Event}
 use Rattle.d3d_machine.specs.Operations.{operations}
-use Rattle.vk_port.specs.declared.commands.Batch.{Batch}
+use Rattle.vk_types.specs.declared.batches.Batch.{Batch}
 use Rattle.vk_port.specs.Enabled.{reached}
 use Rattle.sys_core.specs.Lowering.{last_signal, own_wait}
 use Rattle.sys_core.specs.Batches.{waits_by}

@@ -1,5 +1,5 @@
 -- Where host accesses come only when no called operation is incomplete, the history is a run with its words.
-use Rattle.std.proofs.Common.{ℕ, zero, suc, ◌≡◌, ◌<◌, ◌+◌, ◌∙◌, sym, ap, subst, refl, List, [], ◌∷◌, ◌++◌, length, Some, None, Option, Bool, true, false, append-nil, slice_get, inl, inr, arith, ◌≤◌}
+use Rattle.std.proofs.Common.{ℕ, zero, suc, ◌≡◌, ◌<◌, ◌+◌, ◌∙◌, sym, ap, subst, refl, List, [], ◌∷◌, ◌++◌, length, map, Some, None, Option, Bool, true, false, append-nil, slice_get, inl, inr, arith, ◌≤◌}
 use Rattle.std.proofs.lemmas.Bool.{cases_lt}
 use Rattle.std.specs.Prelude.{◌==◌, if◌then◌else◌}
 use Rattle.dx_base.specs.declared.ids.ThreadId.{ThreadId}
@@ -20,19 +20,20 @@ use Rattle.d3d_machine.specs.Play.{May, Plays, SameReply, SameButWords, IsRun, I
 use Rattle.d3d_machine.specs.Operations.{operations, counter}
 use Rattle.d3d_machine.proofs.Shape.{run_has_shape}
 use Rattle.d3d_machine.proofs.Runs.{plays_append, run_append}
-use Rattle.vk_port.specs.declared.commands.Batch.{Batch}
+use Rattle.vk_types.specs.declared.batches.Batch.{Batch}
 use Rattle.vk_port.specs.declared.steps.Stepped.{Stepped}
 use Rattle.vk_port.specs.declared.steps.Stepped.TheVariants.{Passed, Ran, Bumped, Free}
 use Rattle.vk_port.specs.After.{after_step, after_submit}
 use Rattle.vk_port.specs.Enabled.{enabled_steps}
 use Rattle.vk_port.specs.VkState.{VkState}
 use Rattle.vk_port.specs.VkState as vulkan
-use Rattle.sys_core.specs.Parts.{desk_of, reply_by, device_by}
+use Rattle.sys_core.specs.Parts.{desk_of, state_by, reply_by, device_by}
+use Rattle.sys_core.specs.Values.{last_of}
 use Rattle.sys_core.specs.Lowering.{plan_of_world, startup, lowered_commands}
 use Rattle.sys_core.specs.Steps.{submitted_of, step_events}
 use Rattle.sys_core.specs.Consistent.{IsDevice}
 use Rattle.sys_core.specs.Ahead.{IsAhead, IsQuiet, is_good_access, is_host_access, AreQuietFrom, AreHostAccessesQuiet, IsWhole}
-use Rattle.sys_core.proofs.Calling.{refusal_is, replies_alike}
+use Rattle.sys_core.proofs.Calling.{refusal_is, value_replied, good_alike, replies_alike}
 use Rattle.sys_core.proofs.Buffers.{same_sizes}
 use Rattle.sys_core.proofs.Ahead.{device_within, called_now, drop_past, ahead_first, ahead_awake, idle_words}
 use Rattle.sys_core.proofs.NoQueue.{no_queue_event, no_queue_idle, quiet_words}
@@ -89,31 +90,36 @@ plays_last : (Same : Reply → Reply → Type 0) (w : World) (s : State) (h : Li
 plays_last Same w s [] e plays = plays.0
 plays_last Same w s (d ∷ h) e plays = plays_last Same w (after w s d) h e plays.1
 
-reply_alike : (r : Option Hresult) (c : Call) (m n : List (List ℕ)) → ((is_good_access r c ≡ true) → m ≡ n) → reply_or r (good_reply m c) ≡ reply_or r (good_reply n c)
-reply_alike (Some e) c m n same = refl
-reply_alike None (call.Recording l what) m n same = refl
-reply_alike None (call.Close l) m n same = refl
-reply_alike None (call.Reset l a) m n same = refl
-reply_alike None (call.Execute q ls) m n same = refl
-reply_alike None (call.Signal q f v) m n same = refl
-reply_alike None (call.HostWait f v) m n same = refl
-reply_alike None (call.Write b offset ws) m n same = refl
-reply_alike None (call.Read b offset bytes) m n same = ap (λ ws. good_reply ws (call.Read b offset bytes)) (same refl)
+reply_alike : (r : Option Hresult) (c : Call) (s u : State) → s.desk.fences ≡ u.desk.fences → ((is_good_access r c ≡ true) → s.memory ≡ u.memory) →
+    reply_or r (good_reply s c) ≡ reply_or r (good_reply u c)
+reply_alike (Some e) c s u values words = refl
+reply_alike None (call.Recording l what) s u values words = refl
+reply_alike None (call.Close l) s u values words = refl
+reply_alike None (call.Reset l a) s u values words = refl
+reply_alike None (call.Execute q ls) s u values words = refl
+reply_alike None (call.Signal q f v) s u values words = refl
+reply_alike None (call.HostSignal f v) s u values words = refl
+reply_alike None (call.HostWait f v) s u values words = refl
+reply_alike None (call.Value f) s u values words = value_replied f.0 s.desk u.desk values
+reply_alike None (call.Write b offset ws) s u values words = refl
+reply_alike None (call.Read b offset bytes) s u values words = good_alike (call.Read b offset bytes) s u values (words refl)
 
--- the reply by the device's words is the machine's, where the device's words are the machine's at a host access
-pub reply_is : (w : World) (s : State) (lists : List Listed) (v : VkState) (c : Call) → lists ≡ s.desk.lists →
-    ((is_good_access (refusal w s.desk c) c ≡ true) → v.words ≡ s.memory) → reply_by w lists v c ≡ reply_of w s c
-reply_is w s lists v c are same =
-    ap (λ r. reply_or r (good_reply v.words c)) (refusal_is w s.desk lists c are) ∙ reply_alike (refusal w s.desk c) c v.words s.memory same
+-- the reply by the fences' updates and the device's words is the machine's, where the device's words are the machine's
+-- at a host access
+pub reply_is : (w : World) (s : State) (lists : List Listed) (fences : List (List ℕ)) (v : VkState) (c : Call) → lists ≡ s.desk.lists → map last_of fences ≡ s.desk.fences →
+    ((is_good_access (refusal w s.desk c) c ≡ true) → v.words ≡ s.memory) → reply_by w lists fences v c ≡ reply_of w s c
+reply_is w s lists fences v c are values same =
+    ap (λ r. reply_or r (good_reply (state_by lists fences v) c)) (refusal_is w s.desk lists c are)
+    ∙ reply_alike (refusal w s.desk c) c (state_by lists fences v) s values same
 
 -- a call with the reply by the device's words may come, with its words
-pub may_call : (w : World) (h : List Event) (lists : List Listed) (v : VkState) (t : ThreadId) (c : Call) →
-    IsWorld w → IsRunButWords w h → IsDevice w h v → lists ≡ (state_after w h).desk.lists →
+pub may_call : (w : World) (h : List Event) (lists : List Listed) (fences : List (List ℕ)) (v : VkState) (t : ThreadId) (c : Call) →
+    IsWorld w → IsRunButWords w h → IsDevice w h v → lists ≡ (state_after w h).desk.lists → map last_of fences ≡ (state_after w h).desk.fences →
     (place_of (state_after w h).desk t.0).waits ≡ None → next_call w (state_after w h).desk t.0 ≡ Some c →
     ((is_good_access (refusal w (state_after w h).desk c) c ≡ true) → IsQuiet (state_after w h)) → IsAhead w h v →
-    May SameReply w (state_after w h) (event.Call t c (reply_by w lists v c))
-may_call w h lists v t c world run device are waits next quiet is =
-    (waits, next, reply_is w (state_after w h) lists v c are (λ access. quiet_words w h v world run device is (quiet access)))
+    May SameReply w (state_after w h) (event.Call t c (reply_by w lists fences v c))
+may_call w h lists fences v t c world run device are values waits next quiet is =
+    (waits, next, reply_is w (state_after w h) lists fences v c are values (λ access. quiet_words w h v world run device is (quiet access)))
 
 -- a call that is served, in a world with a queue or without
 words_call : (w : World) (h : List Event) (lists : List Listed) (v : VkState) (t : ThreadId) (c : Call) (r : Reply) →
@@ -146,18 +152,18 @@ pub whole_first : (w : World) → IsWorld w → IsWhole w [] (after_submit (vulk
 whole_first w world = record { run = λ _. tt; words = λ _. ahead_first w world }
 
 -- a call that is served, with the reply by the device's words
-pub whole_call : (w : World) (h : List Event) (lists : List Listed) (v : VkState) (t : ThreadId) (c : Call) →
-    IsWorld w → IsRunButWords w h → IsDevice w h v → lists ≡ (state_after w h).desk.lists →
+pub whole_call : (w : World) (h : List Event) (lists : List Listed) (fences : List (List ℕ)) (v : VkState) (t : ThreadId) (c : Call) →
+    IsWorld w → IsRunButWords w h → IsDevice w h v → lists ≡ (state_after w h).desk.lists → map last_of fences ≡ (state_after w h).desk.fences →
     (place_of (state_after w h).desk t.0).waits ≡ None → next_call w (state_after w h).desk t.0 ≡ Some c →
-    IsWhole w h v → IsWhole w (h ++ event.Call t c (reply_by w lists v c) ∷ []) (device_by w lists v c)
-whole_call w h lists v t c world run device are waits next is =
-    let r : Reply = reply_by w lists v c in
+    IsWhole w h v → IsWhole w (h ++ event.Call t c (reply_by w lists fences v c) ∷ []) (device_by w lists v c)
+whole_call w h lists fences v t c world run device are values waits next is =
+    let r : Reply = reply_by w lists fences v c in
     let e : Event = event.Call t c r in
     let now : IsRunButWords w (h ++ e ∷ []) =
-    run_append w h e run (waits, next, replies_alike w (state_after w h) lists v c are (same_sizes w h v world device.objects)) in
+    run_append w h e run (waits, next, replies_alike w (state_after w h) lists fences v c are values (same_sizes w h v world device.objects)) in
     record {
       run = λ quiet. plays_append SameReply w (first_state w) h e (is.run (quiet_front w h e quiet))
-          (may_call w h lists v t c world run device are waits next (quiet_last w h e quiet) (is.words (quiet_front w h e quiet)));
+          (may_call w h lists fences v t c world run device are values waits next (quiet_last w h e quiet) (is.words (quiet_front w h e quiet)));
       words = λ quiet. words_call w h lists v t c r world run now device are (quiet_last w h e quiet) (is.words (quiet_front w h e quiet));
     }
 

@@ -23,11 +23,11 @@ use Rattle.d3d_machine.specs.Effects.{gathered, marked_option, marked_place, des
 use Rattle.d3d_machine.specs.Play.{state_after}
 use Rattle.d3d_machine.specs.Operations.{operation_of, unless_refused, called_by, operations}
 use Rattle.d3d_machine.proofs.Operations.{operations_append}
-use Rattle.d3d_machine.proofs.Places.{place_in, scripted}
+use Rattle.d3d_machine.proofs.Places.{place_in, kept_map, scripted}
 use Rattle.d3d_machine.proofs.Runs.{state_after_append}
 use Rattle.d3d_machine.proofs.Shape.{run_has_shape}
 use Rattle.d3d_machine.proofs.Short.{commands_are_few}
-use Rattle.vk_port.specs.declared.commands.Batch.{Batch}
+use Rattle.vk_types.specs.declared.batches.Batch.{Batch}
 use Rattle.vk_port.specs.declared.steps.Stepped.{Stepped}
 use Rattle.vk_port.specs.declared.steps.Stepped.TheVariants as stepped
 use Rattle.vk_port.specs.After.{after_step, after_submit}
@@ -41,7 +41,7 @@ use Rattle.sys_core.specs.Lowering.{lowered_commands, lower_record, trailing}
 use Rattle.sys_core.specs.Steps.{submitted_of, step_events}
 use Rattle.sys_core.specs.Work.{call_weight, operation_weight, calls_work, operations_work, wait_work, place_work, threads_work, sum_from, queue_work, held_work, work}
 use Rattle.sys_core.proofs.Holding.{drop_here}
-use Rattle.sys_core.proofs.Seating.{call_place, threads_after_call}
+use Rattle.sys_core.proofs.Seating.{call_place, marked_by, signal_in, threads_after_call}
 use Rattle.sys_core.proofs.Standing.{of_queue_append}
 
 -- a sum of numbers none of which grew
@@ -121,7 +121,9 @@ given_by (call.Close l) = 0
 given_by (call.Reset l a) = 0
 given_by (call.Execute q ls) = 5 + 1024 * length ls
 given_by (call.Signal q f v) = 3
+given_by (call.HostSignal f v) = 0
 given_by (call.HostWait f v) = 0
+given_by (call.Value f) = 0
 given_by (call.Write b offset ws) = 0
 given_by (call.Read b offset bytes) = 0
 
@@ -132,7 +134,9 @@ begun_by (call.Close l) = 0
 begun_by (call.Reset l a) = 0
 begun_by (call.Execute q ls) = 0
 begun_by (call.Signal q f v) = 0
+begun_by (call.HostSignal f v) = 0
 begun_by (call.HostWait f v) = 1
+begun_by (call.Value f) = 0
 begun_by (call.Write b offset ws) = 0
 begun_by (call.Read b offset bytes) = 0
 
@@ -143,7 +147,9 @@ call_pays (call.Close l) = omega arith
 call_pays (call.Reset l a) = omega arith
 call_pays (call.Execute q ls) = omega arith
 call_pays (call.Signal q f v) = omega arith
+call_pays (call.HostSignal f v) = omega arith
 call_pays (call.HostWait f v) = omega arith
+call_pays (call.Value f) = omega arith
 call_pays (call.Write b offset ws) = omega arith
 call_pays (call.Read b offset bytes) = omega arith
 
@@ -154,7 +160,9 @@ queue_of (call.Close l) = 0
 queue_of (call.Reset l a) = 0
 queue_of (call.Execute q ls) = q.0
 queue_of (call.Signal q f v) = q.0
+queue_of (call.HostSignal f v) = 0
 queue_of (call.HostWait f v) = 0
+queue_of (call.Value f) = 0
 queue_of (call.Write b offset ws) = 0
 queue_of (call.Read b offset bytes) = 0
 
@@ -171,7 +179,9 @@ operation_few w h q (call.Execute p ls) =
     let few : length cs ≤ 1024 * length ls = commands_are_few w h ls in
     omega (arith, few, given_at_most (p.0 == q) (operation.Execute cs))
 operation_few w h q (call.Signal p f v) = given_at_most (p.0 == q) (operation.Signal f v)
+operation_few w h q (call.HostSignal f v) = omega arith
 operation_few w h q (call.HostWait f v) = omega arith
+operation_few w h q (call.Value f) = omega arith
 operation_few w h q (call.Write b offset ws) = omega arith
 operation_few w h q (call.Read b offset bytes) = omega arith
 
@@ -188,7 +198,9 @@ operation_none d q (call.Close l) other = refl
 operation_none d q (call.Reset l a) other = refl
 operation_none d q (call.Execute p ls) other = given_elsewhere p.0 q (operation.Execute (gathered d.lists (map (λ l. l.0) ls))) other
 operation_none d q (call.Signal p f v) other = given_elsewhere p.0 q (operation.Signal f v) other
+operation_none d q (call.HostSignal f v) other = refl
 operation_none d q (call.HostWait f v) other = refl
+operation_none d q (call.Value f) other = refl
 operation_none d q (call.Write b offset ws) other = refl
 operation_none d q (call.Read b offset bytes) other = refl
 
@@ -226,25 +238,49 @@ place_called d (call.Close l) script p paid = omega (arith, paid)
 place_called d (call.Reset l a) script p paid = omega (arith, paid)
 place_called d (call.Execute q ls) script p paid = omega (arith, paid)
 place_called d (call.Signal q f v) script p paid = omega (arith, paid)
+place_called d (call.HostSignal f v) script p paid = omega (arith, paid)
 place_called d (call.HostWait f v) script p paid = omega (arith, paid)
+place_called d (call.Value f) script p paid = omega (arith, paid)
 place_called d (call.Write b offset ws) script p paid = omega (arith, paid)
 place_called d (call.Read b offset bytes) script p paid = omega (arith, paid)
+
+wait_marked : (f v : ℕ) (o : Option Waiting) → wait_work (marked_option f v o) ≡ wait_work o
+wait_marked f v None = refl
+wait_marked f v (Some x) = refl
+
+place_marked : (f v : ℕ) (script : List Call) (p : Place) → place_work script (marked_place f v p) ≡ place_work script p
+place_marked f v script p = ap (λ n. calls_work (drop p.made script) + n) (wait_marked f v p.waits)
+
+-- a signal leaves the work of the threads whose waits it meets
+place_signalled : (o : Option Operation) (script : List Call) (p : Place) → place_work script (marked_by o p) ≡ place_work script p
+place_signalled None script p = refl
+place_signalled (Some (operation.Execute cs)) script p = refl
+place_signalled (Some (operation.Signal f v)) script p = place_marked f.0 v script p
+
+made_signalled : (o : Option Operation) (p : Place) → (marked_by o p).made ≡ p.made
+made_signalled None p = refl
+made_signalled (Some (operation.Execute cs)) p = refl
+made_signalled (Some (operation.Signal f v)) p = refl
 
 -- the threads' work after a call
 threads_called : (w : World) (h : List Event) (t : ThreadId) (c : Call) (r : Reply) → next_call w (state_after w h).desk t.0 ≡ Some c →
     threads_work w.scripts (state_after w (h ++ event.Call t c r ∷ [])).desk.threads + call_weight c ≤ threads_work w.scripts (state_after w h).desk.threads + begun_by c
 threads_called w h t c r next =
     let d : Desk = (state_after w h).desk in
-    let p : Place = place_of d t.0 in
+    let o : Option Operation = signal_in c in
+    let places : List Place = map (marked_by o) d.threads in
+    let p : Place = place_in places t.0 in
     let script : List Call = script_of w t.0 in
-    let threads : (state_after w (h ++ event.Call t c r ∷ [])).desk.threads ≡ changed_at (call_place d c) t.0 d.threads =
+    let threads : (state_after w (h ++ event.Call t c r ∷ [])).desk.threads ≡ changed_at (call_place d c) t.0 places =
     ap (λ (s : State). s.desk.threads) (state_after_append w h (event.Call t c r)) ∙ threads_after_call w d t.0 c in
-    let inside : t.0 < length w.scripts = scripted w.scripts t.0 p.made c next in
-    let placed : t.0 < length d.threads = omega (arith, inside, (run_has_shape w h).desk.threads) in
-    let paid : calls_work (drop p.made script) ≡ call_weight c + calls_work (drop (p.made + 1) script) = ap calls_work (drop_here p.made script c next) in
-    let less : threads_work w.scripts (changed_at (call_place d c) t.0 d.threads) + call_weight c ≤ threads_work w.scripts d.threads + begun_by c =
-    threads_changed (call_place d c) w.scripts d.threads t.0 (call_weight c) (begun_by c) inside placed (place_called d c script p paid) in
-    omega (arith, ap (threads_work w.scripts) threads, less)
+    let made : p.made ≡ (place_of d t.0).made = kept_map (λ x. x.made) (marked_by o) (made_signalled o) d.threads t.0 in
+    let inside : t.0 < length w.scripts = scripted w.scripts t.0 (place_of d t.0).made c next in
+    let placed : t.0 < length places = omega (arith, inside, (run_has_shape w h).desk.threads, length-map d.threads (marked_by o)) in
+    let paid : calls_work (drop p.made script) ≡ call_weight c + calls_work (drop (p.made + 1) script) =
+    subst (λ m. calls_work (drop m script) ≡ call_weight c + calls_work (drop (m + 1) script)) (sym made) (ap calls_work (drop_here (place_of d t.0).made script c next)) in
+    let less : threads_work w.scripts (changed_at (call_place d c) t.0 places) + call_weight c ≤ threads_work w.scripts places + begun_by c =
+    threads_changed (call_place d c) w.scripts places t.0 (call_weight c) (begun_by c) inside placed (place_called d c script p paid) in
+    omega (arith, ap (threads_work w.scripts) threads, less, threads_mapped (marked_by o) (place_signalled o) w.scripts d.threads)
 
 -- a call leaves less work
 pub call_falls : (w : World) (h : List Event) (v u : VkState) (t : ThreadId) (c : Call) (r : Reply) → next_call w (state_after w h).desk t.0 ≡ Some c →
@@ -335,13 +371,6 @@ submit_falls w h v q o b within is queue number commands valid lane =
     (omega (arith, queue_submit w h v q o b is queue number)) (omega arith) (omega (arith, within)) in
     let left : steps_left (after_submit v b) ≡ steps_left v + (2 + length b.commands) = submit_left v b valid (omega (arith, queue, lane)) in
     omega (arith, less, left, operation_pays o, ap length commands)
-
-wait_marked : (f v : ℕ) (o : Option Waiting) → wait_work (marked_option f v o) ≡ wait_work o
-wait_marked f v None = refl
-wait_marked f v (Some x) = refl
-
-place_marked : (f v : ℕ) (script : List Call) (p : Place) → place_work script (marked_place f v p) ≡ place_work script p
-place_marked f v script p = ap (λ n. calls_work (drop p.made script) + n) (wait_marked f v p.waits)
 
 threads_completed : (scripts : List (List Call)) (d : Desk) (o : Option Operation) → threads_work scripts (desk_after_operation d o).threads ≡ threads_work scripts d.threads
 threads_completed scripts d None = refl

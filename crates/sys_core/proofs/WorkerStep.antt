@@ -1,9 +1,9 @@
 -- What a worker's step needs, and what it leaves.
-use Rattle.std.proofs.Common.{ℕ, zero, suc, ◌≡◌, ◌<◌, ◌≤◌, ◌+◌, ◌-◌, ◌^◌, ◌∙◌, sym, ap, subst, refl, arith, List, [], ◌∷◌, ◌++◌, length, map, drop, Some, None, Option, Bool, true, false, get_or, set, cond, length-append, IsSome, IfSome}
+use Rattle.std.proofs.Common.{ℕ, ◌≡◌, ◌<◌, ◌≤◌, ◌+◌, ◌∙◌, sym, ap, subst, refl, arith, List, [], ◌∷◌, length, map, Some, None, Option, Bool, true, false, get_or, set, length-append, IfSome}
 use Rattle.std.proofs.lemmas.Bool.{ltb-true}
 use Rattle.std.proofs.lemmas.List.{length-map}
 use Rattle.std.proofs.lemmas.Option.{slice_get_within, slice_get-map, slice_get_read}
-use Rattle.std.specs.List.{slice_get, list_all}
+use Rattle.std.specs.List.{slice_get}
 use Rattle.std.specs.Option.{option_map}
 use Rattle.std.specs.Prelude.{◌==◌, if◌then◌else◌}
 use Rattle.dx_base.specs.Lists.{changed_at}
@@ -23,8 +23,8 @@ use Rattle.d3d_machine.specs.Operations.{operations, operations_from, called_by,
 use Rattle.d3d_machine.specs.Good.{is_good_operation}
 use Rattle.d3d_machine.proofs.Good.{operations_are_good}
 use Rattle.d3d_machine.proofs.Named.{all_at}
-use Rattle.vk_port.specs.declared.commands.Batch.{Batch}
-use Rattle.vk_port.specs.declared.plan.DevicePlan.{DevicePlan}
+use Rattle.vk_types.specs.declared.batches.Batch.{Batch}
+use Rattle.vk_types.specs.declared.plan.DevicePlan.{DevicePlan}
 use Rattle.vk_port.specs.Journal.{next_number, fits_plan}
 use Rattle.vk_port.specs.VkState.{VkState}
 use Rattle.vk_port.specs.After.{after_submit}
@@ -33,7 +33,7 @@ use Rattle.sys_core.specs.declared.parts.Held.{Held}
 use Rattle.sys_core.specs.declared.parts.Parts.{Parts}
 use Rattle.sys_core.specs.Lowering.{plan_of_world, lowered}
 use Rattle.sys_core.specs.Batches.{batch_by, is_small_operation}
-use Rattle.sys_core.specs.Parts.{Queued, queued, updates_in, submitted_one}
+use Rattle.sys_core.specs.Parts.{queued, updates_in, submitted_one}
 use Rattle.sys_core.specs.Steps.{submitted_of, is_ready_worker, submitted_batches, next_batch, after_submits}
 use Rattle.sys_core.specs.Consistent.{IsHeld, IsConsistent}
 use Rattle.sys_core.specs.Keeps.{Keeps}
@@ -53,7 +53,9 @@ call_gives None d q (call.Close l) = omega arith
 call_gives None d q (call.Reset l a) = omega arith
 call_gives None d q (call.Execute p ls) = one_at_most (p.0 == q) (operation.Execute (gathered d.lists (map (λ l. l.0) ls)))
 call_gives None d q (call.Signal p f v) = one_at_most (p.0 == q) (operation.Signal f v)
+call_gives None d q (call.HostSignal f v) = omega arith
 call_gives None d q (call.HostWait f v) = omega arith
+call_gives None d q (call.Value f) = omega arith
 call_gives None d q (call.Write b o ws) = omega arith
 call_gives None d q (call.Read b o n) = omega arith
 

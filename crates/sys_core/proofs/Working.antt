@@ -1,5 +1,5 @@
 -- The system stays consistent when an operation's batch is submitted.
-use Rattle.std.proofs.Common.{ℕ, zero, suc, ◌≡◌, ◌≢◌, ◌<◌, ◌≤◌, ◌+◌, ◌-◌, ◌∙◌, sym, ap, subst, refl, arith, List, [], ◌∷◌, ◌++◌, length, map, take, drop, Some, None, Option, Bool, true, false, append-nil, length-append, get_or, ◌⊎◌, inl, inr, cond}
+use Rattle.std.proofs.Common.{ℕ, ◌≡◌, ◌<◌, ◌≤◌, ◌+◌, ◌-◌, ◌∙◌, sym, ap, subst, refl, arith, List, [], ◌∷◌, ◌++◌, length, take, Some, None, Option, Bool, true, false, append-nil, length-append, get_or, inl, inr, cond}
 use Rattle.std.proofs.lemmas.Bool.{lt-ltb, ltb-true}
 use Rattle.std.proofs.lemmas.Bool.Decides.{eqb_tells}
 use Rattle.std.proofs.lemmas.Option.{slice_get_within}
@@ -15,10 +15,7 @@ use Rattle.d3d_machine.specs.declared.events.Operation.TheVariants.{Execute, Sig
 use Rattle.d3d_machine.specs.declared.events.Event.{Event}
 use Rattle.d3d_machine.specs.World.{IsWorld}
 use Rattle.d3d_machine.specs.Operations.{operations, counter}
-use Rattle.d3d_machine.specs.Good.{is_good_operation}
-use Rattle.d3d_machine.proofs.Good.{operations_are_good}
-use Rattle.d3d_machine.proofs.Named.{all_at}
-use Rattle.vk_port.specs.declared.commands.Batch.{Batch}
+use Rattle.vk_types.specs.declared.batches.Batch.{Batch}
 use Rattle.vk_port.specs.declared.lanes.Lane.{Lane}
 use Rattle.vk_port.specs.Journal.{of_queue, first_number, next_number}
 use Rattle.vk_port.specs.VkState.{VkState, lane_of, no_lane}
@@ -26,7 +23,7 @@ use Rattle.vk_port.specs.After.{after_submit, lane_after_submit, started}
 use Rattle.vk_port.proofs.Valid.{submit_valid}
 use Rattle.vk_port.proofs.Matching.{submit_matches}
 use Rattle.sys_core.specs.declared.parts.Seat.{Seat}
-use Rattle.sys_core.specs.Lowering.{plan_of_world, lowered_commands, startup, lowered, waits_of, other_counters, other_counter, other_pending, is_other_pending, last_signal, own_wait, signals_fence}
+use Rattle.sys_core.specs.Lowering.{plan_of_world, lowered_commands, startup, lowered, waits_of, other_counters, other_pending, last_signal, own_wait, signals_fence}
 use Rattle.sys_core.specs.Batches.{batch_by, waits_by}
 use Rattle.sys_core.specs.Parts.{Queued, submitted_one}
 use Rattle.sys_core.specs.Stands.{Stands}

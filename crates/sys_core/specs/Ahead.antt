@@ -12,7 +12,7 @@ use Rattle.d3d_machine.specs.Replies.{refusal}
 use Rattle.d3d_machine.specs.Effects.{after, memory_after_operation}
 use Rattle.d3d_machine.specs.Play.{IsRun, state_after}
 use Rattle.d3d_machine.specs.Operations.{operations, counter}
-use Rattle.vk_port.specs.declared.commands.VkCommand.{VkCommand}
+use Rattle.vk_types.specs.declared.commands.VkCommand.{VkCommand}
 use Rattle.vk_port.specs.declared.lanes.Running.{Running}
 use Rattle.vk_port.specs.After.{after_command}
 use Rattle.vk_port.specs.Enabled.{undone}
@@ -57,7 +57,9 @@ is_access (call.Close l) = false
 is_access (call.Reset l a) = false
 is_access (call.Execute q ls) = false
 is_access (call.Signal q f v) = false
+is_access (call.HostSignal f v) = false
 is_access (call.HostWait f v) = false
+is_access (call.Value f) = false
 is_access (call.Write b offset ws) = true
 is_access (call.Read b offset bytes) = true
 

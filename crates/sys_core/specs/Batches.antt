@@ -1,13 +1,12 @@
 -- The batch of an operation on the one queue of a world.
-use Rattle.std.specs.Prelude.{ℕ, ◌≡◌, ◌+◌, ◌/◌, ◌^◌, ◌&&◌, nat_lt, List, [], ◌∷◌, length, Bool, true}
+use Rattle.std.specs.Prelude.{ℕ, ◌/◌, ◌^◌, ◌&&◌, nat_lt, List, [], ◌∷◌, length, Bool, true}
 use Rattle.std.specs.List.{list_all}
 use Rattle.d3d_machine.specs.declared.world.World.{World}
 use Rattle.d3d_machine.specs.declared.calls.Record.{Record}
 use Rattle.d3d_machine.specs.declared.calls.Record.TheVariants.{Copy}
-use Rattle.d3d_machine.specs.declared.events.Command.{Command}
 use Rattle.d3d_machine.specs.declared.events.Operation.{Operation}
 use Rattle.d3d_machine.specs.declared.events.Operation.TheVariants.{Execute, Signal}
-use Rattle.vk_port.specs.declared.commands.Batch.{Batch}
+use Rattle.vk_types.specs.declared.batches.Batch.{Batch}
 use Rattle.sys_core.specs.Lowering.{lowered_commands, own_wait}
 
 -- the waits of an operation's batch, where there is no other queue

@@ -1,5 +1,5 @@
 -- What the system's parts are after a history, and what the system keeps at every step.
-use Rattle.std.specs.Prelude.{ℕ, ◌≡◌, ◌≤◌, ◌<◌, ◌+◌, ◌-◌, ◌==◌, ◌&&◌, nat_lt, List, [], ◌∷◌, ◌++◌, length, map, take, drop, slice_get, Option, Some, None, Bool, true, false, if◌then◌else◌}
+use Rattle.std.specs.Prelude.{ℕ, ◌≡◌, ◌≤◌, ◌<◌, ◌+◌, ◌-◌, ◌&&◌, nat_lt, List, [], ◌∷◌, length, map, take, drop, slice_get, Option, Some, None, Bool, true}
 use Rattle.std.specs.List.{list_all}
 use Rattle.std.specs.Option.{option_map}
 use Rattle.d3d_machine.specs.declared.world.World.{World}
@@ -12,8 +12,6 @@ use Rattle.d3d_machine.specs.State.{Waiting, Place}
 use Rattle.d3d_machine.specs.Play.{IsRunButWords, state_after}
 use Rattle.d3d_machine.specs.Fences.{applied_updates, is_met}
 use Rattle.d3d_machine.specs.Operations.{operations, counter}
-use Rattle.vk_port.specs.declared.commands.Batch.{Batch}
-use Rattle.vk_port.specs.declared.lanes.Running.{Running}
 use Rattle.vk_port.specs.Journal.{of_queue, first_number}
 use Rattle.vk_port.specs.Valid.{IsValid, Matches}
 use Rattle.vk_port.specs.VkState.{VkState, lane_of, counter_of}

@@ -13,3 +13,4 @@ pub mod FormRuns
 pub mod First
 pub mod Values
 pub mod Report
+pub mod Laws

@@ -1,5 +1,5 @@
 -- How operations of the Direct3D machine become batches of the Vulkan machine.
-use Rattle.std.specs.Prelude.{ℕ, zero, suc, ◌≡◌, ◌≤◌, ◌+◌, ◌-◌, ◌*◌, ◌/◌, ◌==◌, ◌&&◌, not, nat_lt, List, [], ◌∷◌, ◌++◌, length, map, take, slice_get, Option, Some, None, Bool, true, false, if◌then◌else◌}
+use Rattle.std.specs.Prelude.{ℕ, zero, suc, ◌+◌, ◌-◌, ◌/◌, ◌==◌, ◌&&◌, not, nat_lt, List, [], ◌∷◌, ◌++◌, length, map, take, slice_get, Option, Some, None, Bool, false, if◌then◌else◌}
 use Rattle.d3d_machine.specs.declared.world.World.{World}
 use Rattle.d3d_machine.specs.declared.world.Resource.{Resource}
 use Rattle.d3d_machine.specs.declared.world.Resource.TheVariants.{Buffer}
@@ -10,13 +10,13 @@ use Rattle.d3d_machine.specs.declared.events.Operation.{Operation}
 use Rattle.d3d_machine.specs.declared.events.Operation.TheVariants.{Execute, Signal}
 use Rattle.d3d_machine.specs.declared.events.Event.{Event}
 use Rattle.d3d_machine.specs.Operations.{operations, counter}
-use Rattle.vk_port.specs.declared.commands.Batch.{Batch}
-use Rattle.vk_port.specs.declared.commands.VkCommand.{VkCommand}
-use Rattle.vk_port.specs.declared.commands.VkCommand.TheVariants as vk
-use Rattle.vk_port.specs.declared.flags.Stages.{Stages}
-use Rattle.vk_port.specs.declared.flags.Accesses.{Accesses}
-use Rattle.vk_port.specs.declared.plan.DevicePlan.{DevicePlan}
-use Rattle.vk_port.specs.declared.plan.PlanBuffer.{PlanBuffer}
+use Rattle.vk_types.specs.declared.batches.Batch.{Batch}
+use Rattle.vk_types.specs.declared.commands.VkCommand.{VkCommand}
+use Rattle.vk_types.specs.declared.commands.VkCommand.TheVariants as vk
+use Rattle.vk_types.specs.declared.stages.Stages.{Stages}
+use Rattle.vk_types.specs.declared.accesses.Accesses.{Accesses}
+use Rattle.vk_types.specs.declared.plan.DevicePlan.{DevicePlan}
+use Rattle.vk_types.specs.declared.plan.PlanBuffer.{PlanBuffer}
 
 -- the live buffers, in order of ids
 abbrev pub plan_buffers : List (Option Resource) → List PlanBuffer
@@ -26,7 +26,14 @@ plan_buffers (Some (Buffer h n) ∷ rs) = (record { words = n; home = h }) ∷ p
 
 -- the device's objects for a world: its live buffers, its queues, and a timeline for each queue and one for the start-up
 abbrev pub plan_of_world : World → DevicePlan
-plan_of_world w = record { buffers = plan_buffers w.resources; queues = length w.queues; timelines = length w.queues + 1 }
+plan_of_world w = record {
+  buffers = plan_buffers w.resources;
+  images = [];
+  heaps = [];
+  views = [];
+  queues = length w.queues;
+  timelines = length w.queues + 1;
+}
 
 -- the start-up batch: the first queue's batch 0, which sets the start-up timeline to 1
 abbrev pub startup : World → Batch
@@ -51,11 +58,11 @@ host_read = record { 0 = 256 }
 
 -- the barrier before an execute: all that was written before is seen by its commands
 abbrev pub leading : VkCommand
-leading = vk.Barrier all_commands memory_write all_commands memory_read_write
+leading = vk.Barrier all_commands memory_write all_commands memory_read_write None
 
 -- the barrier behind an execute: all that it wrote is seen by the host
 abbrev pub trailing : VkCommand
-trailing = vk.Barrier all_commands memory_write host host_read
+trailing = vk.Barrier all_commands memory_write host host_read None
 
 -- a recorded command in Vulkan's words: numbers of bytes become numbers of words
 abbrev pub lower_record : Record → VkCommand

@@ -1,5 +1,5 @@
 -- What contracts see of the system's parts, and how each kind of step changes them.
-use Rattle.std.specs.Prelude.{ℕ, ◌≡◌, ◌≤◌, ◌+◌, ◌-◌, ◌==◌, nat_lt, List, [], ◌∷◌, ◌++◌, length, map, drop, slice_get, slice_index_or, Option, Some, None, Bool, true, false, if◌then◌else◌}
+use Rattle.std.specs.Prelude.{ℕ, ◌≡◌, ◌≤◌, ◌+◌, ◌-◌, ◌==◌, List, [], ◌∷◌, ◌++◌, length, map, drop, slice_get, slice_index_or, Option, Some, None, Bool, if◌then◌else◌}
 use Rattle.dx_base.specs.Lists.{changed_at}
 use Rattle.dx_base.specs.Roomy.{Roomy}
 use Rattle.dx_base.specs.declared.hresult.Hresult.{Hresult}
@@ -10,7 +10,7 @@ use Rattle.d3d_machine.specs.declared.calls.Reply.{Reply}
 use Rattle.d3d_machine.specs.declared.events.Listed.{Listed}
 use Rattle.d3d_machine.specs.declared.events.Operation.{Operation}
 use Rattle.d3d_machine.specs.declared.events.Operation.TheVariants as operation
-use Rattle.d3d_machine.specs.State.{Desk}
+use Rattle.d3d_machine.specs.State.{Desk, State}
 use Rattle.d3d_machine.specs.Replies.{refusal, reply_or, good_reply}
 use Rattle.d3d_machine.specs.Effects.{gathered, desk_after_call, memory_or, written}
 use Rattle.d3d_machine.specs.Fences.{is_met}
@@ -19,6 +19,7 @@ use Rattle.sys_core.specs.declared.parts.Armed.{Armed}
 use Rattle.sys_core.specs.declared.parts.Seat.{Seat}
 use Rattle.sys_core.specs.declared.parts.Signalled.{Signalled}
 use Rattle.sys_core.specs.declared.parts.Held.{Held}
+use Rattle.sys_core.specs.Values.{last_of}
 
 -- a queue: its operations that are not submitted, how many are, the last submitted signal's number, and the
 -- submitted signals that have not completed
@@ -48,9 +49,13 @@ updates_in r = r.items
 abbrev pub desk_of : List Listed → Desk
 desk_of lists = record { fences = []; called = []; lists = lists; threads = [] }
 
--- the reply of a call, by the lists and the device's words
-abbrev pub reply_by : World → List Listed → VkState → Call → Reply
-reply_by w lists v c = reply_or (refusal w (desk_of lists) c) (good_reply v.words c)
+-- the state that the lists, the fences' last updates and the device's words give
+abbrev pub state_by : List Listed → List (List ℕ) → VkState → State
+state_by lists fences v = record { desk = record { fences = map last_of fences; called = []; lists = lists; threads = [] }; memory = v.words }
+
+-- the reply of a call, by the lists, the fences' last updates and the device's words
+abbrev pub reply_by : World → List Listed → List (List ℕ) → VkState → Call → Reply
+reply_by w lists fences v c = reply_or (refusal w (desk_of lists) c) (good_reply (state_by lists fences v) c)
 
 -- the lists after a call
 abbrev pub lists_by : World → List Listed → Call → List Listed
@@ -70,7 +75,9 @@ pushes lists (call.Close l) held = held
 pushes lists (call.Reset l a) held = held
 pushes lists (call.Execute q ls) held = changed_at (with_operation (operation.Execute (gathered lists (map (λ l. l.0) ls)))) q.0 held
 pushes lists (call.Signal q f v) held = changed_at (with_operation (operation.Signal f v)) q.0 held
+pushes lists (call.HostSignal f v) held = held
 pushes lists (call.HostWait f v) held = held
+pushes lists (call.Value f) held = held
 pushes lists (call.Write b o ws) held = held
 pushes lists (call.Read b o n) held = held
 
@@ -81,6 +88,19 @@ held_or (Some e) good bad = bad
 -- the queues after a call
 abbrev pub held_by : World → List Listed → Call → List Queued → List Queued
 held_by w lists c held = held_or (refusal w (desk_of lists) c) (pushes lists c held) held
+
+-- the fences' updates after a call: a host signal gives its fence one more
+abbrev pub fences_by : Call → List (List ℕ) → List (List ℕ)
+fences_by (call.Recording l what) fences = fences
+fences_by (call.Close l) fences = fences
+fences_by (call.Reset l a) fences = fences
+fences_by (call.Execute q ls) fences = fences
+fences_by (call.Signal q f v) fences = fences
+fences_by (call.HostSignal f v) fences = changed_at (λ us. us ++ v ∷ []) f.0 fences
+fences_by (call.HostWait f v) fences = fences
+fences_by (call.Value f) fences = fences
+fences_by (call.Write b o ws) fences = fences
+fences_by (call.Read b o n) fences = fences
 
 -- the applied updates of a fence
 abbrev pub updates_at : List (List ℕ) → ℕ → List ℕ
@@ -93,7 +113,9 @@ armed_after fences (call.Close l) o = o
 armed_after fences (call.Reset l a) o = o
 armed_after fences (call.Execute q ls) o = o
 armed_after fences (call.Signal q f v) o = o
+armed_after fences (call.HostSignal f v) o = o
 armed_after fences (call.HostWait f v) o = Some (record { fence = f; value = v; since = length (updates_at fences f.0) - 1 })
+armed_after fences (call.Value f) o = o
 armed_after fences (call.Write b n ws) o = o
 armed_after fences (call.Read b n k) o = o
 

@@ -1,5 +1,5 @@
 -- What the report of a run says: what it read, how it ended, and what it wrote.
-use Rattle.std.specs.Prelude.{ℕ, ◌≡◌, ◌<◌, ◌⊎◌, List, [], ◌∷◌, length, take, map, Option, Some, None, IfSome, ⊤, Bool, true, false}
+use Rattle.std.specs.Prelude.{ℕ, ◌≡◌, ◌<◌, ◌⊎◌, List, [], Option, Some, None, IfSome, Result, Ok, Err, ⊤, Bool, true, false}
 use Rattle.std.specs.Io.KnownBytes.{Appends}
 use Rattle.dx_base.specs.Faults.{HasRisen}
 use Rattle.d3d_machine.specs.declared.world.World.{World}
@@ -19,25 +19,33 @@ use Rattle.sys_core.specs.declared.faults.SysFault.{SysFault}
 use Rattle.sys_core.specs.declared.faults.SysFault.TheVariants as fault
 use Rattle.sys_core.specs.Consistent.{IsDevice}
 
--- how many bytes are read at most: one more than a trace may have
-abbrev pub most : ℕ
-most = 16777217
-
 -- a text of the form: the one that the source had, where it tells it, and the world that it writes
 pub record IsRead (told : Option (List ℕ)) (text : List ℕ) (w : World) : Type 0 where
   pub form : world_of text ≡ Some w
-  pub given : IfSome told (λ all. text ≡ take most all)
+  pub given : IfSome told (λ all. text ≡ all)
 
--- the end of a run: all calls are answered and all operations complete, the values are the machine's, and the device
--- has the batches that the history's operations lower to
-pub record IsEnded (w : World) (h : List Event) (fences : List ℕ) (v : VkState) : Type 0 where
+-- nothing has happened: there is no event, and the device has no batch
+pub record IsUntouched (h : List Event) (v : VkState) : Type 0 where
+  pub events : h ≡ []
+  pub batches : v.journal ≡ []
+
+-- the history is a run, and the device has the batches that its operations lower to
+pub record IsUnderway (w : World) (h : List Event) (v : VkState) : Type 0 where
+  pub run : IsRun w h
+  pub device : IsDevice w h v
+
+-- what a run leaves that was cut short
+abbrev pub IsLeft : World → List Event → VkState → Type 0
+IsLeft w h v = IsUntouched h v ⊎ IsUnderway w h v
+
+-- all calls are answered and all operations complete, and the values are the machine's
+pub record IsEnded (w : World) (h : List Event) (fences : List ℕ) : Type 0 where
   pub finished : IsFinished w (state_after w h).desk
   pub values : fences ≡ (state_after w h).desk.fences
-  pub device : IsDevice w h v
 
 -- the run of a world: it was finished, or cut short by the device or for memory
 abbrev pub Ran : World → (ℕ × ℕ) → List Event → List ℕ → VkState → Status → Type 0
-Ran w device h fences v status.Done = IsRun w h × IsEnded w h fences v
+Ran w device h fences v status.Done = IsUnderway w h v × IsEnded w h fences
 Ran w device h fences v status.Stalled = ⊥
 Ran w device h fences v (status.Usage k) = ⊥
 Ran w device h fences v (status.Refused n c) = ⊥
@@ -45,49 +53,53 @@ Ran w device h fences v status.ReadFault = ⊥
 Ran w device h fences v status.WriteFault = ⊥
 Ran w device h fences v (status.Broken r n) = ⊥
 Ran w device h fences v (status.Torn x) = ⊥
-Ran w device h fences v status.DeviceLost = IsRun w h × HasRisen device.0 device.1
-Ran w device h fences v status.Memory = ⊤
+Ran w device h fences v status.DeviceLost = IsLeft w h v × HasRisen device.0 device.1
+Ran w device h fences v status.Memory = IsLeft w h v
 
 -- the status of a run that a fault ended
 abbrev pub ended_by : SysFault → Status
 ended_by fault.Memory = status.Memory
 ended_by fault.Lost = status.DeviceLost
 
+-- the status and the fences' values of a run: it took its last step, whose values are those, or a fault ended it
+abbrev pub Ends : Result ⊤ SysFault → List ℕ → (Status × List ℕ) → Type 0
+Ends (Ok x) values r = ((r.0 ≡ status.Done) × (r.1 ≡ values)) ⊎ (r.0 ≡ status.Memory)
+Ends (Err e) values r = r.0 ≡ ended_by e
+
 -- a run was finished
 pub record IsDone (told : Option (List ℕ)) (h : List Event) (fences : List ℕ) (v : VkState) : Type 0 where
   pub text : List ℕ
   pub world : World
   pub read : IsRead told text world
-  pub run : IsRun world h
-  pub ended : IsEnded world h fences v
+  pub underway : IsUnderway world h v
+  pub ended : IsEnded world h fences
 
 -- a run was cut short
-pub record IsCut (told : Option (List ℕ)) (h : List Event) : Type 0 where
+pub record IsCut (told : Option (List ℕ)) (h : List Event) (v : VkState) : Type 0 where
   pub text : List ℕ
   pub world : World
   pub read : IsRead told text world
-  pub run : IsRun world h
+  pub left : IsLeft world h v
 
 -- a trace was refused
-pub record IsRefused (told : Option (List ℕ)) (n : ℕ) (c : Cause) (h : List Event) : Type 0 where
+pub record IsRefused (told : Option (List ℕ)) (n : ℕ) (c : Cause) : Type 0 where
   pub line : n ≡ 0
   pub cause : c ≡ cause.Later
-  pub nothing : h ≡ []
-  pub of_no_form : IfSome told (λ all. world_of (take most all) ≡ None)
+  pub of_no_form : IfSome told (λ all. world_of all ≡ None)
 
 -- what a status says: `words` is how many words were given, `told` the bytes that the source had, and the counts of
 -- faults of source and device are those before and after
 abbrev pub Says : ℕ → Option (List ℕ) → (ℕ × ℕ) → (ℕ × ℕ) → List Event → List ℕ → VkState → Status → Type 0
 Says words told source device h fences v status.Done = (words ≡ 0) × IsDone told h fences v
 Says words told source device h fences v status.Stalled = ⊥
-Says words told source device h fences v (status.Usage k) = (0 < words) × ((k ≡ 1) × (h ≡ []))
-Says words told source device h fences v (status.Refused n c) = (words ≡ 0) × IsRefused told n c h
-Says words told source device h fences v status.ReadFault = (words ≡ 0) × ((h ≡ []) × HasRisen source.0 source.1)
+Says words told source device h fences v (status.Usage k) = (0 < words) × ((k ≡ 1) × IsUntouched h v)
+Says words told source device h fences v (status.Refused n c) = (words ≡ 0) × (IsRefused told n c × IsUntouched h v)
+Says words told source device h fences v status.ReadFault = (words ≡ 0) × (HasRisen source.0 source.1 × IsUntouched h v)
 Says words told source device h fences v status.WriteFault = ⊥
 Says words told source device h fences v (status.Broken r n) = ⊥
 Says words told source device h fences v (status.Torn x) = ⊥
-Says words told source device h fences v status.DeviceLost = (words ≡ 0) × (IsCut told h × HasRisen device.0 device.1)
-Says words told source device h fences v status.Memory = ⊤
+Says words told source device h fences v status.DeviceLost = (words ≡ 0) × (HasRisen device.0 device.1 × IsCut told h v)
+Says words told source device h fences v status.Memory = IsUntouched h v ⊎ ((words ≡ 0) × IsCut told h v)
 
 -- a trace that is not of the form is refused, but for a fault of the source and for want of memory
 abbrev pub refuses : Status → Bool

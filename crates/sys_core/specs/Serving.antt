@@ -1,16 +1,15 @@
 -- What serving a call does to the parts and to the device.
-use Rattle.std.specs.Prelude.{ℕ, ⊤, ◌≡◌, ◌≤◌, ◌<◌, ◌^◌, List, length, map, Option, Some, None, Result, Ok, Err}
+use Rattle.std.specs.Prelude.{ℕ, ⊤, ◌≡◌, ◌<◌, ◌^◌, length, map, Some, Result, Ok, Err}
 use Rattle.dx_base.specs.Faults.{HasRisen}
 use Rattle.d3d_machine.specs.declared.world.World.{World}
 use Rattle.d3d_machine.specs.declared.world.Resource.{Resource}
 use Rattle.d3d_machine.specs.declared.calls.Call.{Call}
-use Rattle.d3d_machine.specs.declared.calls.Reply.{Reply}
 use Rattle.d3d_machine.specs.World.{resource_of, words_of_resource}
 use Rattle.vk_port.specs.VkState.{VkState, words_of}
 use Rattle.sys_core.specs.declared.parts.Parts.{Parts}
 use Rattle.sys_core.specs.declared.faults.SysFault.{SysFault}
 use Rattle.sys_core.specs.declared.faults.SysFault.TheVariants.{Memory, Lost}
-use Rattle.sys_core.specs.Parts.{queued, lists_by, held_by}
+use Rattle.sys_core.specs.Parts.{queued, updates_in, lists_by, held_by, fences_by}
 
 -- the device has each live buffer, with its words
 pub record HasBuffers (w : World) (v : VkState) : Type 0 where
@@ -18,18 +17,18 @@ pub record HasBuffers (w : World) (v : VkState) : Type 0 where
   pub long : (b : ℕ) (r : Resource) → resource_of w b ≡ Some r → length (words_of v b) ≡ words_of_resource r
   pub small : (b : ℕ) (r : Resource) → resource_of w b ≡ Some r → words_of_resource r < 2 ^ 32
 
--- the parts after a call that was served: lists and held operations change as it says, and the rest stays
+-- the parts after a call that was served: lists, fences and held operations change as it says, and the rest stays
 pub record Serves (w : World) (c : Call) (old new : Parts) : Type 0 where
   pub lists : new.lists ≡ lists_by w old.lists c
   pub seats : new.seats ≡ old.seats
-  pub fences : new.fences ≡ old.fences
+  pub fences : map updates_in new.fences ≡ fences_by c (map updates_in old.fences)
   pub held : map queued new.held ≡ held_by w old.lists c (map queued old.held)
 
 -- the parts are as before, but for room
 pub record StaysParts (old new : Parts) : Type 0 where
   pub lists : new.lists ≡ old.lists
   pub seats : new.seats ≡ old.seats
-  pub fences : new.fences ≡ old.fences
+  pub fences : map updates_in new.fences ≡ map updates_in old.fences
   pub held : map queued new.held ≡ map queued old.held
 
 abbrev pub HasFaultCause : SysFault → ℕ → ℕ → Type 0

@@ -1,10 +1,10 @@
 -- The device holds exactly the lowered batches of a history.
-use Rattle.std.specs.Prelude.{ℕ, ◌≡◌, ◌≤◌, ◌<◌, ◌+◌, ◌-◌, List, [], ◌∷◌, ◌++◌, length, take, slice_get, Some, true}
+use Rattle.std.specs.Prelude.{ℕ, ◌≡◌, ◌≤◌, ◌<◌, ◌-◌, List, [], ◌∷◌, ◌++◌, length, take, slice_get, Some, true}
 use Rattle.d3d_machine.specs.declared.world.World.{World}
 use Rattle.d3d_machine.specs.declared.events.Operation.{Operation}
 use Rattle.d3d_machine.specs.declared.events.Event.{Event}
 use Rattle.d3d_machine.specs.Operations.{operations, counter}
-use Rattle.vk_port.specs.declared.commands.Batch.{Batch}
+use Rattle.vk_types.specs.declared.batches.Batch.{Batch}
 use Rattle.vk_port.specs.Journal.{of_queue, are_numbered}
 use Rattle.vk_port.specs.VkState.{VkState, counter_of}
 use Rattle.sys_core.specs.Lowering.{startup, lowered}

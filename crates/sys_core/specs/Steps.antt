@@ -1,12 +1,12 @@
 -- The steps of the system, and what each does to the history and to the device.
-use Rattle.std.specs.Prelude.{ℕ, zero, suc, ◌≡◌, ◌≤◌, ◌<◌, ◌+◌, ◌-◌, ◌==◌, nat_lt, List, [], ◌∷◌, ◌++◌, length, slice_get, Option, Some, None, Bool, true, false, if◌then◌else◌}
+use Rattle.std.specs.Prelude.{ℕ, zero, suc, ◌≡◌, ◌≤◌, ◌<◌, ◌+◌, ◌-◌, ◌==◌, nat_lt, List, [], ◌∷◌, ◌++◌, length, slice_get, Option, Some, None, Bool, true, if◌then◌else◌}
 use Rattle.dx_base.specs.declared.steps.Step.{Step}
 use Rattle.dx_base.specs.declared.steps.Step.TheVariants as step
 use Rattle.d3d_machine.specs.declared.world.World.{World}
 use Rattle.d3d_machine.specs.declared.calls.Call.{Call}
 use Rattle.d3d_machine.specs.declared.events.Event.{Event}
 use Rattle.d3d_machine.specs.declared.events.Event.TheVariants as event
-use Rattle.d3d_machine.specs.State.{Waiting, Place, Desk, State, place_of, script_of, next_call}
+use Rattle.d3d_machine.specs.State.{Waiting, Place, State, place_of, script_of, next_call}
 use Rattle.d3d_machine.specs.Replies.{reply_of}
 use Rattle.d3d_machine.specs.Effects.{memory_after}
 use Rattle.d3d_machine.specs.Play.{state_after}
@@ -14,7 +14,7 @@ use Rattle.d3d_machine.specs.declared.events.Operation.{Operation}
 use Rattle.d3d_machine.specs.Operations.{operations}
 use Rattle.vk_port.specs.declared.steps.Stepped.{Stepped}
 use Rattle.vk_port.specs.declared.steps.Stepped.TheVariants as stepped
-use Rattle.vk_port.specs.declared.commands.Batch.{Batch}
+use Rattle.vk_types.specs.declared.batches.Batch.{Batch}
 use Rattle.vk_port.specs.Journal.{next_number}
 use Rattle.vk_port.specs.Offers.{steps_offered}
 use Rattle.vk_port.specs.VkState.{VkState}

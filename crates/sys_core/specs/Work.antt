@@ -21,7 +21,9 @@ call_weight (call.Close l) = 1
 call_weight (call.Reset l a) = 1
 call_weight (call.Execute q ls) = 6 + 1024 * length ls
 call_weight (call.Signal q f v) = 4
+call_weight (call.HostSignal f v) = 1
 call_weight (call.HostWait f v) = 2
+call_weight (call.Value f) = 1
 call_weight (call.Write b offset ws) = 1
 call_weight (call.Read b offset bytes) = 1
 

@@ -11,6 +11,7 @@ ghost use Rattle.vk_port.specs.Enabled.{enabled_steps};
 ghost use Rattle.sys_core.specs.declared.parts.Held.{Held};
 
 use crate::faults::SysFault;
+use crate::fences::{push_update, reserve_update_of};
 use crate::parts::{Held, Parts, Signalled};
 use d3d_machine::{Event, World};
 use dx_base::{Memory, QueueId, Room, Seq};
@@ -35,38 +36,14 @@ fn take_signal(held: &mut Held, number: u64) -> Option<Signalled>
     held.signals.pop()
 }
 
-/// Makes room for one update of the fence at that place, where there is one.
-#[tactic(auto, using(crate::proofs::Updates::room_made, crate::proofs::Updates::room_past, dx_base::proofs::Lists::map_write_same))]
-fn reserve_at(fences: &mut Seq<Room<u64>>, at: usize) -> Result<(), Memory>
-    ensures room { OnOk result (HasRoomAt fences.new at) }
-    ensures same { map updates_in fences.new ≡ map updates_in fences.old }
-{
-    if at < fences.len() {
-        return fences.at_mut(at).reserve();
-    }
-    Ok(())
-}
-
 /// Makes room for one update of the fence that a queue's first submitted signal is of.
 fn reserve_update(held: &Held, fences: &mut Seq<Room<u64>>) -> Result<(), Memory>
     ensures room { OnOk result (HasRoomFor (first_signal (queued held.now)) fences.new) }
     ensures same { map updates_in fences.new ≡ map updates_in fences.old }
 {
     match held.signals.front() {
-        Some(signal) => reserve_at(fences, signal.fence.0 as usize),
+        Some(signal) => reserve_update_of(fences, signal.fence),
         None => Ok(()),
-    }
-}
-
-/// A fence takes a value, where it is there. There is room for it.
-#[tactic(auto, using(crate::proofs::Updates::room_lent, crate::proofs::Updates::updated_past, dx_base::proofs::Lists::map_write))]
-fn update(fences: &mut Seq<Room<u64>>, signal: Signalled)
-    requires { HasRoomAt fences.old signal.fence.0 }
-    ensures { map updates_in fences.new ≡ updated_by (Some signal) (map updates_in fences.old) }
-{
-    let at = signal.fence.0 as usize;
-    if at < fences.len() {
-        fences.at_mut(at).push_reserved(signal.value);
     }
 }
 
@@ -76,7 +53,7 @@ fn update_by(fences: &mut Seq<Room<u64>>, signal: Option<Signalled>)
     ensures { map updates_in fences.new ≡ updated_by signal (map updates_in fences.old) }
 {
     match signal {
-        Some(signal) => update(fences, signal),
+        Some(signal) => push_update(fences, signal.fence, signal.value),
         None => (),
     }
 }

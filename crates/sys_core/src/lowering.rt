@@ -20,6 +20,9 @@ pub fn plan_of(alloc: Global, world: &World) -> Result<DevicePlan, Memory>
     let queues = world.queues.len() as u32;
     Ok(DevicePlan {
         buffers,
+        images: Seq::new(alloc),
+        heaps: Seq::new(alloc),
+        views: Seq::new(alloc),
         queues,
         timelines: queues + 1,
     })
@@ -162,6 +165,7 @@ fn leading_barrier() -> VkCommand
         made: Accesses::MEMORY_WRITE,
         to: Stages::ALL_COMMANDS,
         seen: Accesses(Accesses::MEMORY_READ.0 | Accesses::MEMORY_WRITE.0),
+        change: None,
     }
 }
 
@@ -174,6 +178,7 @@ fn trailing_barrier() -> VkCommand
         made: Accesses::MEMORY_WRITE,
         to: Stages::HOST,
         seen: Accesses::HOST_READ,
+        change: None,
     }
 }
 

@@ -4,9 +4,9 @@
 ghost use Rattle.std.specs.Prelude.{◌≡◌, ◌<◌, ◌≤◌, ◌+◌, ◌-◌, ◌++◌, ◌∷◌, [], map, length, slice_get, slice_index_or, Some, None, IfOk, OnOk, OnErr};
 ghost use Rattle.dx_base.specs.Lists.{changed_at};
 ghost use Rattle.d3d_machine.specs.State.{declared_list};
-ghost use Rattle.d3d_machine.specs.Fences.{is_met};
-ghost use Rattle.sys_core.specs.Parts.{queued, updates_in, with_operation, armed_after, is_met_by as met_by, updates_at, opening_seat, no_queue, signal_at as first_signal_at};
+ghost use Rattle.sys_core.specs.Parts.{queued, updates_in, with_operation, armed_after, opening_seat, no_queue};
 
+use crate::fences::{last_place, starting_fences};
 use d3d_machine::{Call, Lists, Operation, World};
 use dx_base::{FenceId, Fifo, ListType, Memory, QueueId, Room, Seq};
 use std::alloc::Global;
@@ -93,27 +93,6 @@ fn opening_seats(alloc: Global, scripts: &[Seq<Call>]) -> Result<Seq<Seat>, Memo
     Ok(seats)
 }
 
-/// The updates of each fence, of which the first is its starting value.
-fn starting_fences(alloc: Global, values: &[u64]) -> Result<Seq<Room<u64>>, Memory>
-    ensures { IfOk result (λ fences. map updates_in fences ≡ map (λ v. v ∷ []) values.now) }
-{
-    let mut fences = Seq::new(alloc);
-    for value in values {
-        fences.push(updates_from(alloc, *value)?)?;
-    }
-    Ok(fences)
-}
-
-/// The updates of a fence that has its starting value alone.
-fn updates_from(alloc: Global, value: u64) -> Result<Room<u64>, Memory>
-    ensures { IfOk result (λ updates. updates.items ≡ value ∷ []) }
-{
-    let mut updates = Room::new(alloc);
-    updates.reserve()?;
-    updates.push_reserved(value);
-    Ok(updates)
-}
-
 /// A queue without operations, for each queue.
 #[tactic(auto, using(dx_base::proofs::Lists::same_for_more))]
 fn empty_queues(alloc: Global, queues: &[ListType]) -> Result<Seq<Held>, Memory>
@@ -168,40 +147,9 @@ pub(crate) fn armed_by(fences: &Seq<Room<u64>>, call: &Call, waits: Option<Armed
         Call::Reset { .. } => waits,
         Call::Execute { .. } => waits,
         Call::Signal { .. } => waits,
+        Call::HostSignal { .. } => waits,
+        Call::Value { .. } => waits,
         Call::Write { .. } => waits,
         Call::Read { .. } => waits,
     }
-}
-
-/// The place of the last update of a fence.
-#[tactic(auto, using(crate::proofs::Updates::updates_of_none, crate::proofs::Updates::updates_of_some))]
-fn last_place(fences: &Seq<Room<u64>>, fence: FenceId) -> usize
-    ensures { result ≡ length (updates_at (map updates_in fences.now) fence.0) - 1 }
-{
-    match fences.get(fence.0 as usize) {
-        Some(updates) => updates.len().saturating_sub(1),
-        None => 0,
-    }
-}
-
-/// Whether a wait is met: the update that was current at its call, or a later one, is at least its value.
-#[tactic(auto, using(crate::proofs::Updates::updates_of_none, crate::proofs::Updates::updates_of_some))]
-pub(crate) fn is_met_by(fences: &Seq<Room<u64>>, armed: Armed) -> bool
-    ensures { result ≡ met_by (map updates_in fences.now) armed }
-{
-    match fences.get(armed.fence.0 as usize) {
-        Some(updates) => suffices_from(updates.as_slice(), armed.since, armed.value),
-        None => suffices_from(&[], armed.since, armed.value),
-    }
-}
-
-/// Whether an update from that place on is at least the value.
-fn suffices_from(updates: &[u64], since: usize, value: u64) -> bool
-    ensures { result ≡ is_met updates.now since value }
-{
-    if since > updates.len() {
-        return false;
-    }
-    let (_, later) = updates.split_at(since);
-    later.iter().any(|update| *update >= value)
 }

@@ -7,7 +7,7 @@ ghost use Rattle.sys_core.specs.Ahead.{IsWhole};
 ghost use Rattle.sys_core.specs.Keeps.{Keeps};
 ghost use Rattle.sys_core.specs.Serving.{HasCause};
 ghost use Rattle.sys_core.specs.Steps.{enabled_of};
-ghost use Rattle.sys_core.specs.Report.{IsReport, IsWritten, Ran, Says, Writes, ended_by, ending_with, is_usage, most, refuses};
+ghost use Rattle.sys_core.specs.Report.{Ends, IsReport, IsWritten, Ran, Says, Writes, ended_by, ending_with, is_usage, refuses};
 ghost use Rattle.sys_core.specs.Values.{last_of};
 ghost use Rattle.d3d_machine.specs.declared.events.Event.{Event};
 ghost use Rattle.trace_text.specs.Form.{world_of};
@@ -17,19 +17,17 @@ ghost use Rattle.trace_text.specs.declared.status.Status.TheVariants as status;
 ghost use Rattle.trace_text.specs.declared.status.Verdict.TheVariants as verdict;
 
 use crate::faults::SysFault;
+use crate::parts::Parts;
 use crate::sys::{Sys, begin, take_steps};
 use chooser::Chooser;
 use d3d_machine::{Event, World};
-use dx_base::{Memory, Room, Seq};
+use dx_base::{Memory, Room, Seq, TRACE_BYTES};
 use std::alloc::Global;
 use text_io::{ReadAll, Sink, Source, read_all, write_all};
 use trace_text::{
     Cause, Ending, Report, Status, Verdict, names_of_form, output, plain_line, read_world,
 };
 use vk_port::VkDevice;
-
-/// How many bytes are read at most: one more than a trace may have.
-const MOST_BYTES: usize = 16_777_217;
 
 /// How a run ended, before its output is written.
 #[derive(Drop)]
@@ -87,6 +85,19 @@ fn last_value(updates: &Room<u64>) -> u64
     }
 }
 
+/// The status of a system that took its steps, and the last value of each fence where nothing ended the run before.
+fn ending_of(alloc: Global, parts: &Parts, end: Result<(), SysFault>) -> (Status, Seq<u64>)
+    ensures { Ends end (map (λ updates. last_of updates.items) parts.now.fences) result }
+{
+    match end {
+        Ok(()) => match last_values(alloc, parts.fences.as_slice()) {
+            Ok(fences) => (Status::Done, fences),
+            Err(Memory) => (Status::Memory, Seq::new(alloc)),
+        },
+        Err(fault) => (status_of(fault), Seq::new(alloc)),
+    }
+}
+
 /// The end of a system that took its steps.
 fn ended<D: VkDevice>(alloc: Global, sys: Sys<D>, end: Result<(), SysFault>) -> Outcome<D>
     requires keeps { Keeps D.state D.plan_of sys.world sys.history.items sys.parts sys.device }
@@ -95,22 +106,12 @@ fn ended<D: VkDevice>(alloc: Global, sys: Sys<D>, end: Result<(), SysFault>) -> 
     ensures { (text : List ℕ) → world_of text ≡ Some sys.world → (before : ℕ) → HasCause before (D.faults sys.device) end →
         Ran sys.world (before, D.faults result.device) result.history.items result.fences (D.state result.device) result.status }
 {
-    match end {
-        Ok(()) => match last_values(alloc, sys.parts.fences.as_slice()) {
-            Ok(fences) => Outcome {
-                status: Status::Done,
-                history: sys.history.into_vec(),
-                fences,
-                device: sys.device,
-            },
-            Err(Memory) => stopped(alloc, Status::Memory, sys.device),
-        },
-        Err(fault) => Outcome {
-            status: status_of(fault),
-            history: sys.history.into_vec(),
-            fences: Seq::new(alloc),
-            device: sys.device,
-        },
+    let (status, fences) = ending_of(alloc, &sys.parts, end);
+    Outcome {
+        status,
+        history: sys.history.into_vec(),
+        fences,
+        device: sys.device,
     }
 }
 
@@ -149,7 +150,7 @@ fn ran<S: Source, D: VkDevice, C: Chooser>(
     requires no_plan { D.plan_of device ≡ None }
     requires new { (D.state device).journal ≡ [] }
     ensures says { Says (length words.now) (S.left source.old) (S.faults source.old, S.faults source.new) (D.faults device, D.faults result.device) result.history.items result.fences (D.state result.device) result.status }
-    ensures refused { length words.now ≡ 0 → IfSome (S.left source.old) (λ all. world_of (take most all) ≡ None → refuses result.status ≡ true) }
+    ensures refused { length words.now ≡ 0 → IfSome (S.left source.old) (λ all. world_of all ≡ None → refuses result.status ≡ true) }
     ensures started { length words.now ≡ 0 → C.started choices.new ≡ Some 0 }
     ensures given { length words.now ≡ 0 → C.given choices.new ≡ [] }
 {
@@ -157,7 +158,7 @@ fn ran<S: Source, D: VkDevice, C: Chooser>(
         return stopped(alloc, Status::Usage(1), device);
     }
     choices.start(0);
-    let bytes = match read_all(alloc, source, MOST_BYTES) {
+    let bytes = match read_all(alloc, source, TRACE_BYTES + 1) {
         Ok(bytes) => bytes,
         Err(ReadAll::ReadFault) => return stopped(alloc, Status::ReadFault, device),
         Err(ReadAll::Memory) => return stopped(alloc, Status::Memory, device),
@@ -234,7 +235,7 @@ pub fn simulate<S: Source, K: Sink, D: VkDevice, C: Chooser>(
     requires new { (D.state device).journal ≡ [] }
     ensures report { IsReport (length words.now) (S.left source.old) (S.faults source.old, S.faults source.new) (K.faults sink.old, K.faults sink.new) (D.faults device, D.faults result.device) (K.held sink.old) (K.held sink.new) result.status result.history.items (D.state result.device) }
     ensures usage { 0 < length words.now → is_usage result.status ≡ true }
-    ensures refused { length words.now ≡ 0 → IfSome (S.left source.old) (λ all. world_of (take most all) ≡ None → refuses result.status ≡ true) }
+    ensures refused { length words.now ≡ 0 → IfSome (S.left source.old) (λ all. world_of all ≡ None → refuses result.status ≡ true) }
     ensures started { length words.now ≡ 0 → C.started choices.new ≡ Some 0 }
     ensures given { length words.now ≡ 0 → C.given choices.new ≡ [] }
     ensures choices { result.choices.items ≡ [] }

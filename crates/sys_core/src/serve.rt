@@ -3,7 +3,7 @@
 ghost use Rattle.std.specs.Prelude.{◌≡◌, ◌<◌, ◌≤◌, ◌/◌, map, length, true, Some, None, IfOk, OnOk, OnErr, IsSome};
 ghost use Rattle.dx_base.specs.Lists.{changed_at, put, range_of};
 ghost use Rattle.std.specs.Result.{result_err};
-ghost use Rattle.d3d_machine.specs.declared.calls.Call.TheVariants.{Recording as recording_call, Close as close_call, Reset as reset_call, Execute as execute_call, Signal as signal_call, Write as write_call, Read as read_call};
+ghost use Rattle.d3d_machine.specs.declared.calls.Call.TheVariants.{Recording as recording_call, Close as close_call, Reset as reset_call, Execute as execute_call, Signal as signal_call, HostSignal as host_signal_call, Write as write_call};
 ghost use Rattle.d3d_machine.specs.declared.calls.Reply.TheVariants.{Done as done, Words as words_reply};
 ghost use Rattle.d3d_machine.specs.World.{is_named};
 ghost use Rattle.d3d_machine.specs.State.{words_at};
@@ -13,10 +13,11 @@ ghost use Rattle.d3d_machine.specs.Lists.{record_refusal, close_refusal, reset_r
 ghost use Rattle.d3d_machine.specs.Checks.{write_refusal as refusal_of_write, read_refusal as refusal_of_read};
 ghost use Rattle.vk_port.specs.Offers.{IsInside};
 ghost use Rattle.vk_port.specs.VkState.{VkState};
-ghost use Rattle.sys_core.specs.Parts.{queued, reply_by, device_by};
+ghost use Rattle.sys_core.specs.Parts.{queued, updates_in, reply_by, device_by};
 ghost use Rattle.sys_core.specs.Serving.{HasBuffers, Serves, StaysParts, HasCause};
 
 use crate::faults::SysFault;
+use crate::fences::{push_update, reserve_update_of, value_of};
 use crate::parts::{Parts, push_operation};
 use d3d_machine::{Call, Lists, Operation, Record, Reply, World, read_refusal, write_refusal};
 use dx_base::{AllocatorId, FenceId, Hresult, ListId, Memory, QueueId, ResourceId, Seq};
@@ -80,7 +81,7 @@ fn serve_write<D: VkDevice>(
 ) -> Result<Reply, SysFault>
     requires plan { IsSome (D.plan_of device.old) }
     requires buffers { HasBuffers world.now (D.state device.old) }
-    ensures reply { IfOk result (λ reply. reply ≡ reply_by world.now lists.now (D.state device.old) (write_call buffer offset words.now)) }
+    ensures reply { IfOk result (λ reply. reply ≡ reply_or (refusal_of_write world.now buffer.0 offset (length words.now)) done) }
     ensures state { OnOk result (D.state device.new ≡ device_by world.now lists.now (D.state device.old) (write_call buffer offset words.now)) }
     ensures same { OnErr result (D.state device.new ≡ D.state device.old) }
     ensures plan { D.plan_of device.new ≡ D.plan_of device.old }
@@ -101,7 +102,6 @@ fn serve_write<D: VkDevice>(
 /// Serves a call that reads a buffer.
 fn serve_read<D: VkDevice>(
     world: &World,
-    lists: &Lists,
     device: &mut D,
     buffer: ResourceId,
     offset: u64,
@@ -109,14 +109,13 @@ fn serve_read<D: VkDevice>(
 ) -> Result<Reply, SysFault>
     requires plan { IsSome (D.plan_of device.old) }
     requires buffers { HasBuffers world.now (D.state device.old) }
-    ensures reply { IfOk result (λ reply. reply ≡ reply_by world.now lists.now (D.state device.old) (read_call buffer offset bytes)) }
+    ensures reply { IfOk result (λ reply. reply ≡ reply_or (refusal_of_read world.now buffer.0 offset bytes) (words_reply (range_of (offset / 4) (bytes / 4) (words_at (D.state device.old).words buffer.0)))) }
     ensures state { D.state device.new ≡ D.state device.old }
     ensures plan { D.plan_of device.new ≡ D.plan_of device.old }
     ensures rest { D.rest_of device.new ≡ D.rest_of device.old }
     ensures faults { D.faults device.old ≤ D.faults device.new }
     ensures cause { HasCause (D.faults device.old) (D.faults device.new) result }
 {
-    let _lists = lists;
     match read_refusal(world, buffer, offset, bytes) {
         Some(error) => Ok(Reply::Error(error)),
         None => read_words(world, device, buffer, offset, bytes),
@@ -161,6 +160,23 @@ fn serve_signal(
 {
     let _world = world;
     push_operation(&mut parts.held, queue, Operation::Signal { fence, value })?;
+    Ok(Reply::Done)
+}
+
+/// Serves a call by which the host signals a fence: one update more.
+pub(crate) fn serve_host_signal(
+    world: &World,
+    parts: &mut Parts,
+    fence: FenceId,
+    value: u64,
+) -> Result<Reply, Memory>
+    ensures reply { IfOk result (λ reply. reply ≡ done) }
+    ensures parts { OnOk result (Serves world.now (host_signal_call fence value) parts.old parts.new) }
+    ensures same { OnErr result (StaysParts parts.old parts.new) }
+{
+    let _world = world;
+    reserve_update_of(&mut parts.fences, fence)?;
+    push_update(&mut parts.fences, fence, value);
     Ok(Reply::Done)
 }
 
@@ -212,7 +228,7 @@ fn serve_reset(world: &World, parts: &mut Parts, list: ListId, allocator: Alloca
 }
 
 /// Serves a call of a thread that does not wait. The beginning of a wait is left to its caller.
-#[tactic(auto, using(crate::proofs::Serving::device_stays))]
+#[tactic(auto, using(crate::proofs::Serving::device_stays, crate::proofs::Serving::value_seen))]
 pub(crate) fn serve<D: VkDevice>(
     alloc: Global,
     world: &World,
@@ -225,7 +241,7 @@ pub(crate) fn serve<D: VkDevice>(
     requires queues { length parts.old.held ≡ length world.now.queues }
     requires lists { length parts.old.lists ≡ length world.now.lists }
     requires named { is_named world.now call.now ≡ true }
-    ensures reply { IfOk result (λ reply. reply ≡ reply_by world.now parts.old.lists (D.state device.old) call.now) }
+    ensures reply { IfOk result (λ reply. reply ≡ reply_by world.now parts.old.lists (map updates_in parts.old.fences) (D.state device.old) call.now) }
     ensures parts { OnOk result (Serves world.now call.now parts.old parts.new) }
     ensures state { OnOk result (D.state device.new ≡ device_by world.now parts.old.lists (D.state device.old) call.now) }
     ensures same_parts { OnErr result (StaysParts parts.old parts.new) }
@@ -245,7 +261,11 @@ pub(crate) fn serve<D: VkDevice>(
             fence,
             value,
         } => Ok(serve_signal(world, parts, *queue, *fence, *value)?),
+        Call::HostSignal { fence, value } => {
+            Ok(serve_host_signal(world, parts, *fence, *value)?)
+        }
         Call::HostWait { .. } => Ok(Reply::Done),
+        Call::Value { fence } => Ok(Reply::Value(value_of(&parts.fences, *fence))),
         Call::Write {
             buffer,
             offset,
@@ -255,6 +275,6 @@ pub(crate) fn serve<D: VkDevice>(
             buffer,
             offset,
             bytes,
-        } => serve_read(world, &parts.lists, device, *buffer, *offset, *bytes),
+        } => serve_read(world, device, *buffer, *offset, *bytes),
     }
 }

@@ -40,6 +40,7 @@ pub(crate) fn begin<D: VkDevice>(
     requires new { (D.state device.old).journal ≡ [] }
     ensures keeps { IfOk result (λ parts. Keeps D.state D.plan_of world.now [] parts device.new) }
     ensures whole { OnOk result (IsWhole world.now [] (D.state device.new)) }
+    ensures no_batch { OnErr result ((D.state device.new).journal ≡ []) }
     ensures faults { D.faults device.old ≤ D.faults device.new }
     ensures cause { HasCause (D.faults device.old) (D.faults device.new) result }
 {

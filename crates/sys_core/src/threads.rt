@@ -11,7 +11,8 @@ ghost use Rattle.sys_core.specs.Serving.{HasCause};
 ghost use Rattle.sys_core.specs.Keeps.{Keeps, ready_by};
 
 use crate::faults::SysFault;
-use crate::parts::{Armed, Parts, Seat, armed_by, is_met_by};
+use crate::fences::is_met_by;
+use crate::parts::{Parts, Seat, armed_by};
 use crate::serve::serve;
 use d3d_machine::{Call, Event, World};
 use dx_base::{Room, Seq, ThreadId};

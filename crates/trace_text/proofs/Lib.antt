@@ -1,5 +1,10 @@
 pub mod Answered
-pub mod Declared
+pub mod DeclaredLines
 pub mod Digits
 pub mod Rounds
 pub mod Worlds
+pub mod Each
+pub mod Scripting
+pub mod TextSteps
+pub mod Written
+pub mod Knowing

@@ -100,7 +100,7 @@ impl Rule {
 pub enum Verdict {
     /// No event breaks a rule.
     Clean,
-    /// The first event that breaks a rule, by its place in the history counted from 0, and the least rule that
+    /// The first event that breaks a rule, by its place in the history counted from 1, and the least rule that
     /// it breaks.
     Broken(Rule, u64),
 }
@@ -120,7 +120,7 @@ pub enum Status {
     ReadFault,
     /// The sink of the output failed.
     WriteFault,
-    /// A rule was broken by the event of that place in the history, counted from 0.
+    /// A rule was broken by the event of that place in the history, counted from 1.
     Broken(Rule, u64),
     /// A descriptor word had another version than the one declared.
     Torn(Torn),

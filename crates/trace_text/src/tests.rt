@@ -2,4 +2,5 @@
 
 mod misses;
 mod outputs;
+mod traces;
 mod worlds;

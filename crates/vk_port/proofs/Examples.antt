@@ -1,5 +1,5 @@
 -- The buffers of the tests.
-use Rattle.std.proofs.Common.{◌≡◌, ℕ, ◌+◌, ◌<◌, ◌≤◌, List, [], ◌∷◌, map, length, get_or, ap, arith}
+use Rattle.std.proofs.Common.{◌≡◌, ℕ, ◌<◌, List, [], ◌∷◌, map, length, get_or, ap, arith}
 use Rattle.vk_port.specs.Offers.{IsInside}
 use Rattle.vk_port.specs.VkState.{VkState}
 

@@ -4,11 +4,11 @@ use Rattle.std.specs.List.{list_all}
 use Rattle.std.proofs.lemmas.Bool.{and_parts, ltb-true}
 use Rattle.std.proofs.lemmas.List.{length-append, length-drop, length-replicate, length-set}
 use Rattle.std.proofs.Math.ListN.{length-take}
-use Rattle.vk_port.specs.declared.commands.Batch.{Batch}
-use Rattle.vk_port.specs.declared.commands.VkCommand.{VkCommand}
-use Rattle.vk_port.specs.declared.commands.VkCommand.TheVariants.{Barrier, Copy}
-use Rattle.vk_port.specs.declared.plan.DevicePlan.{DevicePlan}
-use Rattle.vk_port.specs.declared.plan.PlanBuffer.{PlanBuffer}
+use Rattle.vk_types.specs.declared.batches.Batch.{Batch}
+use Rattle.vk_types.specs.declared.commands.VkCommand.{VkCommand}
+use Rattle.vk_types.specs.declared.commands.VkCommand.TheVariants.{Barrier, Copy, CopyImage, CopyIn, CopyOut, Clear, Dispatch}
+use Rattle.vk_types.specs.declared.plan.DevicePlan.{DevicePlan}
+use Rattle.vk_types.specs.declared.plan.PlanBuffer.{PlanBuffer}
 use Rattle.vk_port.specs.declared.steps.Stepped.{Stepped}
 use Rattle.vk_port.specs.declared.steps.Stepped.TheVariants.{Passed, Ran, Bumped, Free}
 use Rattle.vk_port.specs.After.{put, range_of, after_command, after_found, command_at, lane_after_run, lane_after_pass, lane_after_bump, sets_of, after_sets, lane_after_submit, after_step, after_submit, after_host_write, after_host_read}
@@ -29,9 +29,14 @@ length_put first new words =
 
 -- a command leaves as many words of each buffer
 command_kept : (command : VkCommand) (words : List (List ℕ)) → map length (after_command command words) ≡ map length words
-command_kept (Barrier from made to seen) words = refl
+command_kept (Barrier from made to seen change) words = refl
 command_kept (Copy to to_first from from_first count) words =
     map_changed length (put to_first (range_of from_first count (slice_index_or words from []))) to words (length_put to_first (range_of from_first count (slice_index_or words from [])))
+command_kept (CopyImage to to_sub to_layout from from_sub from_layout) words = refl
+command_kept (CopyIn image sub layout buffer first pitch) words = refl
+command_kept (CopyOut buffer first pitch image sub layout) words = refl
+command_kept (Clear target word) words = refl
+command_kept (Dispatch routine count t0 t1 u0 b0) words = refl
 
 found_kept : (command : Option VkCommand) (words : List (List ℕ)) → map length (after_found command words) ≡ map length words
 found_kept None words = refl

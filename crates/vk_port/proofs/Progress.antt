@@ -2,7 +2,7 @@
 use Rattle.std.proofs.Common.{◌≡◌, ℕ, zero, suc, ◌+◌, ◌<◌, ◌≤◌, ◌∙◌, ◌&&◌, Bool, true, false, List, [], ◌∷◌, ◌++◌, length, take, refl, sym, ap, subst, arith, nat_lt, Option, Some, None, slice_get, if◌then◌else◌, ◌⊎◌, inl, inr, length-append}
 use Rattle.std.specs.List.{list_all}
 use Rattle.std.proofs.lemmas.Bool.{cases_lt, lt-ltb, eqb-true}
-use Rattle.vk_port.specs.declared.commands.VkCommand.{VkCommand}
+use Rattle.vk_types.specs.declared.commands.VkCommand.{VkCommand}
 use Rattle.vk_port.specs.declared.lanes.Lane.{Lane}
 use Rattle.vk_port.specs.declared.lanes.Running.{Running}
 use Rattle.vk_port.specs.declared.steps.Stepped.{Stepped}

@@ -1,7 +1,7 @@
 -- The search through the commands of a batch, and through the batches of a lane.
 use Rattle.std.proofs.Common.{◌≡◌, ℕ, ◌+◌, ◌<◌, ◌≤◌, ◌∙◌, ◌++◌, Bool, false, List, [], length, drop, take, min, ap, sym, subst, Some, slice_get}
 use Rattle.vk_port.specs.declared.ahead.Ahead.{Ahead}
-use Rattle.vk_port.specs.declared.commands.VkCommand.{VkCommand}
+use Rattle.vk_types.specs.declared.commands.VkCommand.{VkCommand}
 use Rattle.vk_port.specs.declared.found.Found.{Found}
 use Rattle.vk_port.specs.declared.found.Found.TheVariants.{At, Left}
 use Rattle.vk_port.specs.declared.lanes.Running.{Running}

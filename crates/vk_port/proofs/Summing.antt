@@ -4,13 +4,14 @@ use Rattle.std.proofs.Math.ListN.{drop_of_length-le}
 use Rattle.std.proofs.Math.Bool.{and_assoc, and-true}
 use Rattle.std.proofs.lemmas.Bool.{cases_lt}
 use Rattle.vk_port.specs.declared.ahead.Ahead.{Ahead}
-use Rattle.vk_port.specs.declared.commands.VkCommand.{VkCommand}
-use Rattle.vk_port.specs.declared.commands.VkCommand.TheVariants.{Barrier, Copy}
+use Rattle.vk_types.specs.declared.commands.VkCommand.{VkCommand}
+use Rattle.vk_types.specs.declared.commands.VkCommand.TheVariants.{Barrier, Copy, CopyImage, CopyIn, CopyOut, Clear, Dispatch}
 use Rattle.vk_port.specs.declared.lanes.Running.{Running}
-use Rattle.vk_port.specs.Ahead.{no_ahead, with_command, summary, lets, command_step, batch_steps, lane_steps}
+use Rattle.vk_port.specs.Ahead.{no_ahead, with_stages, with_command, summary, lets_stages, lets, command_step, batch_steps, lane_steps}
 use Rattle.vk_port.specs.Enabled.{unmarked, undone, batch_commands, lane_commands}
-use Rattle.vk_port.specs.Orders.{orders, can_run}
-use Rattle.vk_port.specs.Stages.{whole}
+use Rattle.vk_port.specs.Orders.{stages_of, waits_for, orders, can_run}
+use Rattle.vk_types.specs.declared.stages.Stages.{Stages}
+use Rattle.vk_types.specs.Stages.{whole, meets, copy_stage, compute_stage}
 use Rattle.vk_port.proofs.Bits.{or_apart}
 use Rattle.vk_port.proofs.Lists.{item_at, opened}
 
@@ -79,17 +80,44 @@ moved_out : (a b t : Bool) → (a && (b && t)) ≡ ((a && b) && not (not t))
 moved_out true b t = first_two b t
 moved_out false b t = refl
 
+module _ (a : Ahead) where
+  -- a barrier more, before a command of these stages that is no barrier
+  barrier_before : (to stages : Stages) → lets_stages (record a { to = bit_or a.to (whole to) }) stages ≡ (lets_stages a stages && not (meets to stages))
+  barrier_before to stages = rw (or_apart a.to (whole to) (whole stages)) (first_two (bit_and a.to (whole stages) == 0) (bit_and (whole to) (whole stages) == 0))
+
+  -- a barrier more holds back what it orders
+  barrier_with : (to : Stages) (c : VkCommand) → lets (record a { to = bit_or a.to (whole to) }) c ≡ (lets a c && not (meets to (stages_of c)))
+  barrier_with to (Barrier from made to2 seen change) =
+      rw (or_apart (bit_or a.to (whole to)) a.by (whole from), or_apart a.to (whole to) (whole from), or_apart a.to a.by (whole from))
+      (turned_inside (bit_and a.to (whole from) == 0) (bit_and (whole to) (whole from) == 0) (bit_and a.by (whole from) == 0))
+  barrier_with to (Copy to2 to_first from from_first words) = barrier_before to copy_stage
+  barrier_with to (CopyImage to2 to_sub to_layout from from_sub from_layout) = barrier_before to copy_stage
+  barrier_with to (CopyIn image sub layout buffer first pitch) = barrier_before to copy_stage
+  barrier_with to (CopyOut buffer first pitch image sub layout) = barrier_before to copy_stage
+  barrier_with to (Clear target word) = barrier_before to compute_stage
+  barrier_with to (Dispatch routine count t0 t1 u0 b0) = barrier_before to compute_stage
+
+  -- a command more that is no barrier holds back what waits for its stages
+  stages_with : (stages : Stages) (c : VkCommand) → lets (with_stages a stages) c ≡ (lets a c && not (waits_for c stages))
+  stages_with stages (Barrier from made to seen change) =
+      rw (or_apart a.to (bit_or a.by (whole stages)) (whole from), or_apart a.by (whole stages) (whole from), or_apart a.to a.by (whole from))
+      (moved_out (bit_and a.to (whole from) == 0) (bit_and a.by (whole from) == 0) (bit_and (whole stages) (whole from) == 0))
+  stages_with stages (Copy to to_first from from_first words) = sym (and-true (lets_stages a copy_stage))
+  stages_with stages (CopyImage to to_sub to_layout from from_sub from_layout) = sym (and-true (lets_stages a copy_stage))
+  stages_with stages (CopyIn image sub layout buffer first pitch) = sym (and-true (lets_stages a copy_stage))
+  stages_with stages (CopyOut buffer first pitch image sub layout) = sym (and-true (lets_stages a copy_stage))
+  stages_with stages (Clear target word) = sym (and-true (lets_stages a compute_stage))
+  stages_with stages (Dispatch routine count t0 t1 u0 b0) = sym (and-true (lets_stages a compute_stage))
+
 -- one more command that is not done holds back what it orders
 lets_with : (a : Ahead) (e c : VkCommand) → lets (with_command a e) c ≡ (lets a c && not (orders e c))
-lets_with a (Barrier from made to seen) (Barrier from2 made2 to2 seen2) =
-    rw (or_apart (bit_or a.to (whole to)) a.by (whole from2), or_apart a.to (whole to) (whole from2), or_apart a.to a.by (whole from2))
-    (turned_inside (bit_and a.to (whole from2) == 0) (bit_and (whole to) (whole from2) == 0) (bit_and a.by (whole from2) == 0))
-lets_with a (Barrier from made to seen) (Copy to2 to_first2 from2 from_first2 count2) =
-    rw (or_apart a.to (whole to) 4) (first_two (bit_and a.to 4 == 0) (bit_and (whole to) 4 == 0))
-lets_with a (Copy to to_first from from_first count) (Barrier from2 made2 to2 seen2) =
-    rw (or_apart a.to (bit_or a.by 4) (whole from2), or_apart a.by 4 (whole from2), or_apart a.to a.by (whole from2))
-    (moved_out (bit_and a.to (whole from2) == 0) (bit_and a.by (whole from2) == 0) (bit_and 4 (whole from2) == 0))
-lets_with a (Copy to to_first from from_first count) (Copy to2 to_first2 from2 from_first2 count2) = sym (and-true (bit_and a.to 4 == 0))
+lets_with a (Barrier from made to seen change) c = barrier_with a to c
+lets_with a (Copy to to_first from from_first words) c = stages_with a copy_stage c
+lets_with a (CopyImage to to_sub to_layout from from_sub from_layout) c = stages_with a copy_stage c
+lets_with a (CopyIn image sub layout buffer first pitch) c = stages_with a copy_stage c
+lets_with a (CopyOut buffer first pitch image sub layout) c = stages_with a copy_stage c
+lets_with a (Clear target word) c = stages_with a compute_stage c
+lets_with a (Dispatch routine count t0 t1 u0 b0) c = stages_with a compute_stage c
 
 -- what is summed up lets a command run just where the commands themselves do
 lets_after : (a : Ahead) (before : List VkCommand) (c : VkCommand) → lets (summary a before) c ≡ (lets a c && can_run before c)
@@ -99,8 +127,13 @@ lets_after a (e ∷ es) c =
 
 -- nothing is held back at first
 lets_first : (c : VkCommand) → lets no_ahead c ≡ true
-lets_first (Barrier from made to seen) = refl
-lets_first (Copy to to_first from from_first count) = refl
+lets_first (Barrier from made to seen change) = refl
+lets_first (Copy to to_first from from_first words) = refl
+lets_first (CopyImage to to_sub to_layout from from_sub from_layout) = refl
+lets_first (CopyIn image sub layout buffer first pitch) = refl
+lets_first (CopyOut buffer first pitch image sub layout) = refl
+lets_first (Clear target word) = refl
+lets_first (Dispatch routine count t0 t1 u0 b0) = refl
 
 -- the commands of a list, summed up, let a command run just where they do themselves
 lets_is : (before : List VkCommand) (c : VkCommand) → lets (summary no_ahead before) c ≡ can_run before c

@@ -6,9 +6,9 @@ use Rattle.std.proofs.lemmas.List.{append-nil, drop-drop, length-drop, length-ma
 use Rattle.std.proofs.lemmas.List.Folds.{list_all-append}
 use Rattle.std.proofs.lemmas.Option.{slice_get_within, get_or_from_slice_get}
 use Rattle.dx_base.specs.Lists.{changed_at}
-use Rattle.vk_port.specs.declared.commands.Batch.{Batch}
+use Rattle.vk_types.specs.declared.batches.Batch.{Batch}
 use Rattle.vk_port.specs.declared.lanes.Lane.{Lane}
-use Rattle.vk_port.specs.declared.plan.DevicePlan.{DevicePlan}
+use Rattle.vk_types.specs.declared.plan.DevicePlan.{DevicePlan}
 use Rattle.vk_port.specs.declared.steps.Stepped.{Stepped}
 use Rattle.vk_port.specs.declared.steps.Stepped.TheVariants.{Passed, Ran, Bumped, Free}
 use Rattle.vk_port.specs.After.{with_done, place_of, lane_after_run, lane_after_pass, lane_after_bump, started, lane_after_submit, after_step, after_submit, after_host_write, after_host_read}

@@ -1,10 +1,10 @@
 -- The state of the Vulkan machine after a step, a submission, and an access of the host.
-use Rattle.std.specs.Prelude.{ℕ, suc, ◌+◌, ◌-◌, ◌==◌, true, false, List, [], ◌∷◌, ◌++◌, length, take, drop, replicate, slice_get, slice_set, slice_index_or, Option, Some, None, if◌then◌else◌}
+use Rattle.std.specs.Prelude.{ℕ, suc, ◌+◌, ◌-◌, ◌==◌, true, false, List, [], ◌∷◌, ◌++◌, length, drop, replicate, slice_get, slice_set, slice_index_or, Option, Some, None, if◌then◌else◌}
 use Rattle.dx_base.specs.Lists.{changed_at}
 pub use Rattle.dx_base.specs.Lists.{put, range_of}
-use Rattle.vk_port.specs.declared.commands.Batch.{Batch}
-use Rattle.vk_port.specs.declared.commands.VkCommand.{VkCommand}
-use Rattle.vk_port.specs.declared.commands.VkCommand.TheVariants.{Barrier, Copy}
+use Rattle.vk_types.specs.declared.batches.Batch.{Batch}
+use Rattle.vk_types.specs.declared.commands.VkCommand.{VkCommand}
+use Rattle.vk_types.specs.declared.commands.VkCommand.TheVariants.{Barrier, Copy, CopyImage, CopyIn, CopyOut, Clear, Dispatch}
 use Rattle.vk_port.specs.declared.lanes.Lane.{Lane}
 use Rattle.vk_port.specs.declared.lanes.Running.{Running}
 use Rattle.vk_port.specs.declared.steps.Stepped.{Stepped}
@@ -12,11 +12,16 @@ use Rattle.vk_port.specs.declared.steps.Stepped.TheVariants.{Passed, Ran, Bumped
 use Rattle.vk_port.specs.VkState.{VkState, lane_of}
 
 -- the words of all buffers after a command: a copy (Vulkan 1.3, 19.2) writes those of its words that lie inside
--- both buffers, a barrier none
+-- both buffers, a barrier none; what the others do is not said yet, and no device is given one
 abbrev pub after_command : VkCommand → List (List ℕ) → List (List ℕ)
-after_command (Barrier from made to seen) words = words
+after_command (Barrier from made to seen change) words = words
 after_command (Copy to to_first from from_first count) words =
     changed_at (put to_first (range_of from_first count (slice_index_or words from []))) to words
+after_command (CopyImage to to_sub to_layout from from_sub from_layout) words = words
+after_command (CopyIn image sub layout buffer first pitch) words = words
+after_command (CopyOut buffer first pitch image sub layout) words = words
+after_command (Clear target word) words = words
+after_command (Dispatch routine count t0 t1 u0 b0) words = words
 
 -- the words of all buffers after a command that may be missing
 abbrev pub after_found : Option VkCommand → List (List ℕ) → List (List ℕ)

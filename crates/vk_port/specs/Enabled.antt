@@ -1,7 +1,7 @@
 -- The steps that the Vulkan machine can take.
 use Rattle.std.specs.Prelude.{ℕ, ◌+◌, Bool, true, false, ◌&&◌, List, [], ◌∷◌, ◌++◌, take, nat_lt, nat_le, slice_get, slice_index_or, Some, None, if◌then◌else◌}
 use Rattle.std.specs.List.{list_all}
-use Rattle.vk_port.specs.declared.commands.VkCommand.{VkCommand}
+use Rattle.vk_types.specs.declared.commands.VkCommand.{VkCommand}
 use Rattle.vk_port.specs.declared.lanes.Lane.{Lane}
 use Rattle.vk_port.specs.declared.lanes.Running.{Running}
 use Rattle.vk_port.specs.declared.steps.Stepped.{Stepped}

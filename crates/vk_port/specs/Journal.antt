@@ -1,10 +1,10 @@
 -- The batches of a queue among all that were submitted, and their numbers.
-use Rattle.std.specs.Prelude.{ℕ, ◌+◌, ◌==◌, Bool, true, ◌&&◌, List, [], ◌∷◌, length, nat_lt, if◌then◌else◌}
+use Rattle.std.specs.Prelude.{ℕ, ◌+◌, ◌==◌, Bool, true, false, ◌&&◌, List, [], ◌∷◌, length, nat_lt, Some, None, if◌then◌else◌}
 use Rattle.std.specs.List.{list_all}
-use Rattle.vk_port.specs.declared.commands.Batch.{Batch}
-use Rattle.vk_port.specs.declared.commands.VkCommand.{VkCommand}
-use Rattle.vk_port.specs.declared.commands.VkCommand.TheVariants.{Barrier, Copy}
-use Rattle.vk_port.specs.declared.plan.DevicePlan.{DevicePlan}
+use Rattle.vk_types.specs.declared.batches.Batch.{Batch}
+use Rattle.vk_types.specs.declared.commands.VkCommand.{VkCommand}
+use Rattle.vk_types.specs.declared.commands.VkCommand.TheVariants.{Barrier, Copy, CopyImage, CopyIn, CopyOut, Clear, Dispatch}
+use Rattle.vk_types.specs.declared.plan.DevicePlan.{DevicePlan}
 
 -- the batches of one queue, in order
 abbrev pub of_queue : ℕ → List Batch → List Batch
@@ -29,17 +29,24 @@ abbrev pub are_numbered : ℕ → List Batch → Bool
 are_numbered n [] = true
 are_numbered n (b ∷ bs) = (b.number == n) && are_numbered (n + 1) bs
 
--- a command names only buffers of the plan
+-- a command is one that devices do so far, a barrier without a change of a layout or a copy between buffers, and
+-- names only buffers of the plan
 abbrev pub command_fits : DevicePlan → VkCommand → Bool
-command_fits plan (Barrier from made to seen) = true
-command_fits plan (Copy to to_first from from_first count) =
+command_fits plan (Barrier from made to seen None) = true
+command_fits plan (Barrier from made to seen (Some change)) = false
+command_fits plan (Copy to to_first from from_first words) =
     nat_lt to (length plan.buffers) && nat_lt from (length plan.buffers)
+command_fits plan (CopyImage to to_sub to_layout from from_sub from_layout) = false
+command_fits plan (CopyIn image sub layout buffer first pitch) = false
+command_fits plan (CopyOut buffer first pitch image sub layout) = false
+command_fits plan (Clear target word) = false
+command_fits plan (Dispatch routine count t0 t1 u0 b0) = false
 
 -- waits or sets name only timelines of the plan
 abbrev pub pairs_fit : DevicePlan → List (ℕ × ℕ) → Bool
 pairs_fit plan pairs = list_all (λ pair. nat_lt pair.0 plan.timelines) pairs
 
--- a batch names only queues, timelines and buffers of the plan
+-- a batch has only commands that devices do, and names only queues, timelines and buffers of the plan
 abbrev pub fits_plan : DevicePlan → Batch → Bool
 fits_plan plan b =
     nat_lt b.queue plan.queues

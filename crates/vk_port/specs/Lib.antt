@@ -1,6 +1,5 @@
-pub mod Names
-pub mod Stages
 pub mod VkState
+pub mod Plans
 pub mod Orders
 pub mod Enabled
 pub mod After

@@ -1,6 +1,6 @@
 -- What it means that a step can be taken.
 use Rattle.std.specs.Prelude.{ℕ, ◌≡◌, ◌-◌, ◌<◌, ◌≤◌, true, false, slice_get, Some}
-use Rattle.vk_port.specs.declared.commands.VkCommand.{VkCommand}
+use Rattle.vk_types.specs.declared.commands.VkCommand.{VkCommand}
 use Rattle.vk_port.specs.declared.lanes.Lane.{Lane}
 use Rattle.vk_port.specs.declared.lanes.Running.{Running}
 use Rattle.vk_port.specs.declared.steps.Stepped.{Stepped}

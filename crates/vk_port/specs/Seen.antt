@@ -2,7 +2,7 @@
 use Rattle.std.specs.Prelude.{[], Option, Some, None}
 use Rattle.vk_port.specs.declared.kept.Note.{Note}
 use Rattle.vk_port.specs.declared.kept.Note.TheVariants.{Create, Submit, Step, HostWrite, HostRead}
-use Rattle.vk_port.specs.declared.plan.DevicePlan.{DevicePlan}
+use Rattle.vk_types.specs.declared.plan.DevicePlan.{DevicePlan}
 use Rattle.vk_port.specs.VkState.{VkState, first_state}
 use Rattle.vk_port.specs.After.{after_step, after_submit, after_host_write, after_host_read}
 

@@ -1,7 +1,7 @@
 -- What a device stores, and what proofs know of it.
 use Rattle.std.specs.Prelude.{ℕ, ◌≡◌, Option, Some, None}
 use Rattle.vk_port.specs.declared.kept.Kept.{Kept}
-use Rattle.vk_port.specs.declared.plan.DevicePlan.{DevicePlan}
+use Rattle.vk_types.specs.declared.plan.DevicePlan.{DevicePlan}
 use Rattle.vk_port.specs.declared.store.Store.{Store}
 use Rattle.vk_port.specs.Stored.{state_of}
 

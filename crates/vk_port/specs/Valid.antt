@@ -1,11 +1,11 @@
 -- What every state of the Vulkan machine keeps.
 use Rattle.std.specs.Prelude.{ℕ, ◌≡◌, ◌≤◌, ◌==◌, Bool, true, List, map, length, drop}
 use Rattle.std.specs.List.{list_all}
-use Rattle.vk_port.specs.declared.commands.Batch.{Batch}
+use Rattle.vk_types.specs.declared.batches.Batch.{Batch}
 use Rattle.vk_port.specs.declared.lanes.Lane.{Lane}
 use Rattle.vk_port.specs.declared.lanes.Running.{Running}
-use Rattle.vk_port.specs.declared.plan.DevicePlan.{DevicePlan}
-use Rattle.vk_port.specs.declared.plan.PlanBuffer.{PlanBuffer}
+use Rattle.vk_types.specs.declared.plan.DevicePlan.{DevicePlan}
+use Rattle.vk_types.specs.declared.plan.PlanBuffer.{PlanBuffer}
 use Rattle.vk_port.specs.VkState.{VkState, lane_of}
 use Rattle.vk_port.specs.Journal.{of_queue, first_number, are_numbered}
 

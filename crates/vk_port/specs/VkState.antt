@@ -1,9 +1,9 @@
 -- The state of the Vulkan machine.
 use Rattle.std.specs.Prelude.{ℕ, List, [], map, replicate, slice_index_or}
-use Rattle.vk_port.specs.declared.commands.Batch.{Batch}
+use Rattle.vk_types.specs.declared.batches.Batch.{Batch}
 use Rattle.vk_port.specs.declared.lanes.Lane.{Lane}
-use Rattle.vk_port.specs.declared.plan.DevicePlan.{DevicePlan}
-use Rattle.vk_port.specs.declared.plan.PlanBuffer.{PlanBuffer}
+use Rattle.vk_types.specs.declared.plan.DevicePlan.{DevicePlan}
+use Rattle.vk_types.specs.declared.plan.PlanBuffer.{PlanBuffer}
 
 -- what the Vulkan machine knows
 pub record VkState : Type 0 where

@@ -1,12 +1,11 @@
 //! What the commands that are not done hold back.
 
 ghost use Rattle.std.specs.Prelude.{◌≡◌};
-ghost use Rattle.vk_port.specs.Ahead.{no_ahead, with_command, lets, summary};
+ghost use Rattle.vk_port.specs.Ahead.{no_ahead, with_stages, with_command, lets_stages, lets, summary};
 ghost use Rattle.vk_port.specs.Enabled.{undone};
 
-use crate::commands::VkCommand;
-use crate::flags::Stages;
 use crate::lanes::Running;
+use vk_types::{Stages, VkCommand};
 
 /// What some commands that are not done hold back, as bits of stages.
 #[derive(Clone, Copy, Debug, PartialEq, Eq)]
@@ -34,10 +33,22 @@ impl Ahead {
                 to: self.to | to.whole(),
                 by: self.by,
             },
-            VkCommand::Copy { .. } => Ahead {
-                to: self.to,
-                by: self.by | Stages::COPY.whole(),
-            },
+            VkCommand::Copy { .. } => self.with_stages(Stages::COPY),
+            VkCommand::CopyImage { .. } => self.with_stages(Stages::COPY),
+            VkCommand::CopyIn { .. } => self.with_stages(Stages::COPY),
+            VkCommand::CopyOut { .. } => self.with_stages(Stages::COPY),
+            VkCommand::Clear { .. } => self.with_stages(Stages::COMPUTE_SHADER),
+            VkCommand::Dispatch { .. } => self.with_stages(Stages::COMPUTE_SHADER),
+        }
+    }
+
+    /// One more command that is no barrier, of these stages.
+    fn with_stages(self, stages: Stages) -> Ahead
+        ensures { result ≡ with_stages self stages }
+    {
+        Ahead {
+            to: self.to,
+            by: self.by | stages.whole(),
         }
     }
 
@@ -47,8 +58,20 @@ impl Ahead {
     {
         match command {
             VkCommand::Barrier { from, .. } => (self.to | self.by) & from.whole() == 0,
-            VkCommand::Copy { .. } => self.to & Stages::COPY.whole() == 0,
+            VkCommand::Copy { .. } => self.lets_stages(Stages::COPY),
+            VkCommand::CopyImage { .. } => self.lets_stages(Stages::COPY),
+            VkCommand::CopyIn { .. } => self.lets_stages(Stages::COPY),
+            VkCommand::CopyOut { .. } => self.lets_stages(Stages::COPY),
+            VkCommand::Clear { .. } => self.lets_stages(Stages::COMPUTE_SHADER),
+            VkCommand::Dispatch { .. } => self.lets_stages(Stages::COMPUTE_SHADER),
         }
+    }
+
+    /// Whether the commands let a later one run that is no barrier, of these stages.
+    fn lets_stages(self, stages: Stages) -> bool
+        ensures { result ≡ lets_stages self stages }
+    {
+        self.to & stages.whole() == 0
     }
 
     /// The commands of a batch that are not done, too.

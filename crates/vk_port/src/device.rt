@@ -1,18 +1,18 @@
 //! The contract of a device.
 
 ghost use Rattle.std.specs.Prelude.{◌≡◌, ℕ, ◌+◌, ◌-◌, ◌^◌, ◌<◌, ◌≤◌, min, true, [], List, length, slice_get, Option, Some, None, IfSome, IsSome, IfOk, OnOk, OnErr};
-ghost use Rattle.vk_port.specs.declared.plan.DevicePlan.{DevicePlan};
+ghost use Rattle.vk_types.specs.declared.plan.DevicePlan.{DevicePlan};
 ghost use Rattle.vk_port.specs.declared.steps.Stepped.TheVariants.{Free};
 ghost use Rattle.vk_port.specs.Causes.{HasCause};
 ghost use Rattle.vk_port.specs.Offers.{steps_offered, rest_taken, IsInside};
+ghost use Rattle.vk_port.specs.Plans.{has_only_buffers};
 ghost use Rattle.vk_port.specs.VkState.{VkState, first_state, words_of, counter_of};
 ghost use Rattle.vk_port.specs.VkSteps.{enabled_steps, after_step, after_submit, after_host_write, after_host_read, range_of, next_number, fits_plan};
 
-use crate::commands::Batch;
 use crate::faults::DeviceFault;
-use crate::plan::DevicePlan;
 use crate::sets::Sets;
 use crate::steps::Stepped;
+use vk_types::{Batch, DevicePlan};
 
 /// A device: it makes the objects of a plan, takes batches, and runs their commands step by step in an
 /// order that its caller chooses. After an error the device is as before the call.
@@ -28,10 +28,12 @@ pub trait VkDevice {
     /// A count of faults, which never falls.
     ghost faults: { Self → ℕ };
 
-    /// Makes the objects of a plan (Vulkan 1.3, 5.2). All words and timelines are 0.
+    /// Makes the objects of a plan (Vulkan 1.3, 5.2), which has only buffers, queues and timelines so far.
+    /// All words and timelines are 0.
     fn create(&mut self, plan: &DevicePlan) -> Result<(), DeviceFault>
         requires no_plan { plan_of self.old ≡ None }
         requires new { (state self.old).journal ≡ [] }
+        requires buffers { has_only_buffers plan.now ≡ true }
         ensures plan { OnOk result (plan_of self.new ≡ Some plan.now) }
         ensures state { OnOk result (state self.new ≡ first_state plan.now) }
         ensures rest { rest_of self.new ≡ rest_of self.old }
@@ -40,7 +42,8 @@ pub trait VkDevice {
         ensures faults { faults self.old ≤ faults self.new }
         ensures cause { HasCause (faults self.old) (faults self.new) result };
 
-    /// Appends a batch to its queue, and to the journal (Vulkan 1.3, 6.5).
+    /// Appends a batch to its queue, and to the journal (Vulkan 1.3, 6.5). Its commands are barriers without a
+    /// change of a layout, and copies between buffers, so far.
     fn submit(&mut self, batch: Batch) -> Result<(), DeviceFault>
         requires number { batch.number ≡ next_number batch.queue (state self.old).journal }
         requires plan { IsSome (plan_of self.old) }

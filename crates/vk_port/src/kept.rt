@@ -4,10 +4,9 @@ ghost use Rattle.std.specs.Prelude.{◌≡◌};
 ghost use Rattle.std.specs.Borrow.{ftrue};
 ghost use Rattle.vk_port.specs.Seen.{Seen, nothing_seen, after_note};
 
-use crate::commands::Batch;
-use crate::plan::DevicePlan;
 use crate::steps::Stepped;
 use std::marker::Model;
+use vk_types::{Batch, DevicePlan};
 
 /// What the Vulkan machine has seen of a device. It takes no memory.
 #[derive(Drop)]

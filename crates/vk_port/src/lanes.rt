@@ -4,9 +4,9 @@ ghost use Rattle.std.specs.Prelude.{◌≡◌, ◌<◌, length, IfOk, OnOk, OnEr
 ghost use Rattle.vk_port.specs.After.{place_of, command_at, with_done, lane_after_run, lane_after_pass, lane_after_bump, started, with_batch};
 ghost use Rattle.vk_port.specs.VkState.{no_lane};
 
-use crate::commands::{Batch, VkCommand};
 use dx_base::{Memory, Seq};
 use std::alloc::Global;
+use vk_types::{Batch, VkCommand};
 
 /// An unfinished batch, and for each of its commands whether it is done.
 #[derive(Debug, PartialEq, Eq, Drop)]

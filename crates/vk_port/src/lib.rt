@@ -1,19 +1,16 @@
-//! The port to a Vulkan device: its types, its contract, and a plain device that meets it.
+//! The port to a Vulkan device: its contract, and a plain device that meets it.
 #![tactic(auto)]
 
 mod ahead;
 mod calls;
-mod commands;
 mod device;
 mod faults;
 mod find;
-mod flags;
 mod found;
 mod kept;
 mod lanes;
 mod laws;
 mod plain;
-mod plan;
 mod queues;
 mod sets;
 mod steps;
@@ -23,16 +20,17 @@ mod tests;
 mod timelines;
 mod words;
 
-pub use commands::{Batch, VkCommand};
 pub use device::VkDevice;
 pub use faults::DeviceFault;
-pub use flags::{Accesses, Stages};
 pub use lanes::{Lane, Running};
 pub use laws::{
     a_submission_adds_its_steps, each_step_leaves_fewer, each_step_means_what_it_says,
     states_keep_their_objects, states_stay_valid,
 };
 pub use plain::PlainDevice;
-pub use plan::{DevicePlan, PlanBuffer};
 pub use sets::{NoSets, Sets};
 pub use steps::Stepped;
+pub use vk_types::{
+    Accesses, Batch, Change, Count, DevicePlan, PlanBuffer, PlanImage, PlanView, Register, Stages,
+    VkCommand, VkLayout,
+};

@@ -4,12 +4,10 @@ ghost use Rattle.std.specs.Prelude.{◌≡◌, IfSome};
 ghost use Rattle.vk_port.specs.Tied.{IsTied};
 
 use crate::calls::Calls;
-use crate::commands::Batch;
 use crate::device::VkDevice;
 use crate::faults::DeviceFault;
 use crate::found::Found;
 use crate::kept::{Kept, Note};
-use crate::plan::DevicePlan;
 use crate::sets::Sets;
 use crate::steps::Stepped;
 use crate::store::Store;
@@ -17,6 +15,7 @@ use crate::timelines::value_of;
 use crate::words::copy_at;
 use dx_base::Seq;
 use std::alloc::Global;
+use vk_types::{Batch, DevicePlan};
 
 /// A device without caches and without free steps: a command's step does its accesses at once.
 #[derive(Drop)]
@@ -30,15 +29,17 @@ pub struct PlainDevice {
 
 impl PlainDevice {
     ghost use Rattle.std.specs.Prelude.{None, []};
-    ghost use Rattle.vk_port.specs.Seen.{nothing_seen};
+    ghost use Rattle.vk_port.specs.Seen.{no_state};
 
-    /// A new device. `fails` are the numbers of the calls that answer `Lost`: of all calls of `create`,
-    /// `submit`, `host_read`, `host_write` and `step`, counted together from 1.
+    /// A new device, which has no plan, and to which nothing was submitted. `fails` are the numbers of the
+    /// calls that answer `Lost`: of all calls of `create`, `submit`, `host_read`, `host_write` and `step`,
+    /// counted together from 1.
     pub fn new(alloc: Global, fails: Vec<u64>) -> PlainDevice
-        ensures seen { result.kept.seen ≡ nothing_seen }
+        ensures plan { ⟦<PlainDevice as VkDevice>⟧.plan_of result ≡ None }
+        ensures state { ⟦<PlainDevice as VkDevice>⟧.state result ≡ no_state }
+        ensures faults { ⟦<PlainDevice as VkDevice>⟧.faults result ≡ 0 }
         ensures fails { result.calls.fails ≡ fails.items }
         ensures made { result.calls.made ≡ 0 }
-        ensures faults { result.calls.faults ≡ 0 }
     {
         PlainDevice {
             alloc,

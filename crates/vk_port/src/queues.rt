@@ -5,10 +5,10 @@ ghost use Rattle.dx_base.specs.Lists.{changed_at};
 ghost use Rattle.vk_port.specs.After.{command_at, lane_after_run, lane_after_pass, lane_after_bump, with_batch};
 ghost use Rattle.vk_port.specs.VkState.{no_lane};
 
-use crate::commands::VkCommand;
 use crate::lanes::{Lane, Running};
 use dx_base::{Memory, Seq};
 use std::alloc::Global;
+use vk_types::VkCommand;
 
 /// The lanes of queues at first.
 pub fn first_lanes(alloc: Global, queues: u32) -> Result<Seq<Lane>, Memory>

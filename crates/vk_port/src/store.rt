@@ -2,17 +2,16 @@
 
 ghost use Rattle.std.specs.Prelude.{◌≡◌, ◌<◌, ◌-◌, ◌^◌, ◌++◌, min, length, IfOk, OnOk, OnErr};
 
-use crate::commands::Batch;
 use crate::find::{find_bumps, find_commands, find_passes};
 use crate::found::Found;
 use crate::lanes::{Lane, Running};
-use crate::plan::DevicePlan;
 use crate::queues;
 use crate::steps::Stepped;
 use crate::timelines::set_timelines;
 use crate::words::{first_words, put_at, run_found};
 use dx_base::{Memory, Room, Seq};
 use std::alloc::Global;
+use vk_types::{Batch, DevicePlan};
 
 /// The words of the buffers, the timelines, all batches that were submitted, and the unfinished ones
 /// of each queue.

@@ -3,17 +3,15 @@
 ghost use Rattle.std.specs.Prelude.{◌≡◌, map, length, IfOk, IsSome};
 ghost use Rattle.vk_port.specs.Examples.{two_buffers, one_copy};
 
-use crate::commands::{Batch, VkCommand};
 use crate::device::VkDevice;
 use crate::faults::DeviceFault;
-use crate::flags::{Accesses, Stages};
 use crate::plain::PlainDevice;
-use crate::plan::{DevicePlan, PlanBuffer};
 use crate::sets::NoSets;
 use crate::steps::Stepped;
 use dx_base::{Home, Memory, Seq};
 use std::alloc::Global;
 use std::test::Fail;
+use vk_types::{Accesses, Batch, DevicePlan, PlanBuffer, Stages, VkCommand};
 
 /// Two buffers of four words, with so many queues, and a timeline for each.
 fn plan_of(alloc: Global, queues: u32) -> Result<DevicePlan, Memory>
@@ -29,6 +27,9 @@ fn plan_of(alloc: Global, queues: u32) -> Result<DevicePlan, Memory>
     };
     Ok(DevicePlan {
         buffers: Seq::from_vec(vec![in alloc; upload, readback]?),
+        images: Seq::new(alloc),
+        heaps: Seq::new(alloc),
+        views: Seq::new(alloc),
         queues,
         timelines: queues,
     })
@@ -43,6 +44,7 @@ fn copy_of(alloc: Global, queue: u32, number: u64, first: u32) -> Result<Batch, 
         made: Accesses::MEMORY_WRITE,
         to: Stages::COPY,
         seen: Accesses::TRANSFER_READ,
+        change: None,
     };
     let copy = VkCommand::Copy {
         to: 1,
@@ -56,6 +58,7 @@ fn copy_of(alloc: Global, queue: u32, number: u64, first: u32) -> Result<Batch, 
         made: Accesses::TRANSFER_WRITE,
         to: Stages::HOST,
         seen: Accesses::HOST_READ,
+        change: None,
     };
     Ok(Batch {
         queue,

@@ -5,10 +5,9 @@ ghost use Rattle.dx_base.specs.Lists.{changed_at};
 ghost use Rattle.vk_port.specs.After.{put, range_of, after_command, after_found};
 ghost use Rattle.vk_port.specs.VkState.{first_words as words_at_first};
 
-use crate::commands::VkCommand;
-use crate::plan::{DevicePlan, PlanBuffer};
 use dx_base::{Memory, Seq};
 use std::alloc::Global;
+use vk_types::{DevicePlan, PlanBuffer, VkCommand};
 
 /// Writes words into a buffer from the word `first` on; what would lie past its end is left out.
 fn put_words(words: &mut Seq<u32>, first: u32, new: &[u32])
@@ -73,6 +72,12 @@ fn run_command(alloc: Global, buffers: &mut Seq<Seq<u32>>, command: VkCommand) -
             put_at(buffers, to, to_first, chosen.as_slice());
             Ok(())
         }
+        // No device is given one of these yet.
+        VkCommand::CopyImage { .. } => Ok(()),
+        VkCommand::CopyIn { .. } => Ok(()),
+        VkCommand::CopyOut { .. } => Ok(()),
+        VkCommand::Clear { .. } => Ok(()),
+        VkCommand::Dispatch { .. } => Ok(()),
     }
 }
 

@@ -1,18 +1,13 @@
 -- What a step of the device leaves.
-use Rattle.std.proofs.Common.{ℕ, ◌≡◌, ◌<◌, ◌≤◌, ◌+◌, ◌∙◌, sym, ap, subst, refl, arith, rules, length, Some, None, List, ◌∷◌, [], ◌++◌, map, inl, inr, slice_set}
-use Rattle.std.specs.List.{slice_get}
-use Rattle.d3d_machine.specs.declared.events.Event.{Event}
+use Rattle.std.proofs.Common.{◌<◌, ◌∙◌, sym, ap, subst, refl, length, ◌∷◌, [], ◌++◌, slice_set}
 use Rattle.d3d_machine.specs.declared.events.Event.TheVariants as event
-use Rattle.vk_port.specs.declared.steps.Stepped.TheVariants.{Passed, Ran, Bumped, Free}
-use Rattle.vk_port.specs.Meaning.{IsEnabled}
+use Rattle.vk_port.specs.declared.steps.Stepped.TheVariants.{Passed, Ran, Bumped}
 use Rattle.vk_port.specs.After.{after_step}
 use Rattle.sys_core.specs.declared.parts.Held.{Held}
-use Rattle.sys_core.specs.declared.parts.Parts.{Parts}
-use Rattle.sys_core.specs.Parts.{queued, updates_in, signal_at, without, updated_by, first_signal, HasRoomFor}
+use Rattle.sys_core.specs.Parts.{queued, signal_at, updated_by, first_signal, HasRoomFor}
 use Rattle.sys_core.specs.Keeps.{Keeps}
 use Rattle.sys_core.proofs.Updates.{room_numbered}
 use Rattle.sys_core.proofs.DeviceStep as step
-use Rattle.sys_core.proofs.WorkerStep as worker
 use Rattle.sys_core.proofs.device_steps.device_step.Goals as goal
 
 pub returns-then-number-eq0-clause-keeps : goal.returns-then-number-eq0-clause-keeps

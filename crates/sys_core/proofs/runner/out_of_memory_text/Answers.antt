@@ -1,5 +1,4 @@
 -- The line is there, and is the whole text.
-use Rattle.std.proofs.Common.{ℕ, ◌≡◌, sym, ap, subst, refl, List}
 use Rattle.trace_text.specs.Names.{form_names}
 use Rattle.trace_text.specs.Text.{output_text}
 use Rattle.trace_text.specs.declared.status.Status.TheVariants as status

@@ -1,5 +1,5 @@
 -- Where memory was refused, that is what is written.
-use Rattle.std.proofs.Common.{ℕ, ◌≡◌, sym, ap, subst, refl, List, inr}
+use Rattle.std.proofs.Common.{subst, refl, inr}
 use Rattle.trace_text.specs.declared.status.Status.TheVariants as status
 use Rattle.sys_core.specs.Report.{Writes}
 use Rattle.sys_core.proofs.runner.write_output.Goals as goal

@@ -1,13 +1,7 @@
 -- The system is as it is before any call.
-use Rattle.std.proofs.Common.{ℕ, ◌≡◌, ◌∙◌, sym, ap, subst, refl, List, [], map, Some}
-use Rattle.vk_port.specs.VkState.{VkState, first_state}
-use Rattle.vk_port.specs.After.{after_submit}
-use Rattle.vk_port.specs.declared.commands.Batch.{Batch}
-use Rattle.vk_port.specs.declared.plan.DevicePlan.{DevicePlan}
+use Rattle.std.proofs.Common.{◌∙◌, sym, ap, subst, [], Some}
 use Rattle.sys_core.specs.Ahead.{IsWhole}
-use Rattle.sys_core.specs.Lowering.{plan_of_world, startup}
 use Rattle.sys_core.proofs.Beginning.{begins, is_opened}
-use Rattle.sys_core.proofs.Opening.{opened}
 use Rattle.sys_core.proofs.Whole.{whole_first}
 use Rattle.sys_core.proofs.sys.begin.Goals as goal
 

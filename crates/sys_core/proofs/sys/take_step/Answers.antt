@@ -1,5 +1,5 @@
 -- Each step taken is enabled, and makes the work smaller.
-use Rattle.std.proofs.Common.{ℕ, ◌≡◌, ◌<◌, ◌≤◌, ◌+◌, ◌∙◌, sym, ap, subst, refl, arith, length, Some, true}
+use Rattle.std.proofs.Common.{◌≡◌, ◌<◌, ◌≤◌, ◌+◌, ◌∙◌, sym, ap, subst, length, Some}
 use Rattle.vk_port.specs.Enabled.{enabled_steps}
 use Rattle.vk_port.specs.Offers.{steps_offered}
 use Rattle.sys_core.specs.Steps.{IsDeviceStep}

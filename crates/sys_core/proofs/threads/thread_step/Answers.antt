@@ -1,14 +1,12 @@
-use Rattle.std.proofs.Common.{ℕ, ◌≡◌, ◌<◌, ◌≤◌, ◌+◌, ◌++◌, ◌∷◌, [], ◌∙◌, sym, ap, subst, refl, arith, rules, Some, None, List, Option, length}
+use Rattle.std.proofs.Common.{ℕ, ◌≡◌, ◌<◌, ◌++◌, ◌∷◌, [], ◌∙◌, sym, ap, subst, refl, arith, Some, None, List, Option, length}
 use Rattle.std.specs.List.{slice_get}
 use Rattle.d3d_machine.specs.State.{script_of}
 use Rattle.d3d_machine.specs.declared.calls.Call.{Call}
-use Rattle.d3d_machine.specs.declared.events.Event.{Event}
 use Rattle.std.proofs.Common.{map}
-use Rattle.dx_base.specs.Lists.{changed_at}
 use Rattle.d3d_machine.specs.declared.world.World.{World}
 use Rattle.d3d_machine.specs.declared.events.Event.TheVariants as event
 use Rattle.sys_core.specs.declared.parts.Parts.{Parts}
-use Rattle.sys_core.specs.Parts.{updates_in, seat_after, reply_by}
+use Rattle.sys_core.specs.Parts.{updates_in, reply_by}
 use Rattle.sys_core.specs.Steps.{after_event}
 use Rattle.sys_core.specs.Serving.{Serves}
 use Rattle.sys_core.specs.Keeps.{Keeps}
@@ -97,7 +95,7 @@ returns-in_ok-reply-in-None-clause-keeps g c =
     (keeps_call g.D.VkDevice.state g.D.VkDevice.plan_of c.args.world.now c.args.history.now.items c.args.parts.now c.serve.new.parts x c.args.device.now c.serve.new.device
     c.args.thread call c.at-seat.result.now c.requires.keeps c.at-seat.ensures c.in-None.is next served c.in_ok-reply-in-None.ensures.state c.serve.ensures.plan
     refl refl refl
-    (c.seat_call.ensures ∙ ap (λ fs. changed_at (seat_after (map updates_in fs) call) c.args.thread.0 c.serve.new.parts.seats) served.fences))
+    c.seat_call.ensures)
 
 pub returns-in_ok-reply-in-None-clause-event : goal.returns-in_ok-reply-in-None-clause-event
 returns-in_ok-reply-in-None-clause-event g c =
@@ -112,7 +110,7 @@ pub returns-in_ok-reply-in-None-clause-state : goal.returns-in_ok-reply-in-None-
 returns-in_ok-reply-in-None-clause-state g c =
     let call : Call = c.in_ok-call-in-None.call in
     c.in_ok-reply-in-None.ensures.state
-    ∙ threading.device_seen g.D.VkDevice.state g.D.VkDevice.plan_of c.args.world.now c.args.history.now.items c.args.parts.now c.args.device.now c.requires.keeps call c.args.thread (reply_by c.args.world.now c.args.parts.now.lists (g.D.VkDevice.state c.args.device.now) call)
+    ∙ threading.device_seen g.D.VkDevice.state g.D.VkDevice.plan_of c.args.world.now c.args.history.now.items c.args.parts.now c.args.device.now c.requires.keeps call c.args.thread (reply_by c.args.world.now c.args.parts.now.lists (map updates_in c.args.parts.now.fences) (g.D.VkDevice.state c.args.device.now) call)
     ∙ ap (after_event c.args.world.now c.args.history.now.items (g.D.VkDevice.state c.args.device.now))
     (threading.call_event_is g.D.VkDevice.state g.D.VkDevice.plan_of c.args.world.now c.args.history.now.items c.args.parts.now c.args.device.now c.requires.keeps c.args.thread c.at-seat.result.now call c.at-seat.ensures c.in-None.is
     (call_at c.args.world.now c.args.thread.0 c.at-script.result.now c.at-seat.result.now.made c.at.result.now call c.at-script.ensures c.at.ensures c.in_ok-call-in-None.ensures))

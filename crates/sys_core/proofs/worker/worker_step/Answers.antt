@@ -1,7 +1,7 @@
-use Rattle.std.proofs.Common.{ℕ, ◌≡◌, ◌<◌, ◌≤◌, ◌+◌, ◌∙◌, sym, ap, subst, refl, arith, rules, Some, None, List, Option, length, true, IsSome, IfSome}
+use Rattle.std.proofs.Common.{◌≡◌, ◌+◌, ◌∙◌, sym, ap, subst, refl, arith, Some, None, Option, true, IsSome, IfSome}
 use Rattle.std.specs.List.{slice_get}
 use Rattle.d3d_machine.specs.declared.events.Operation.{Operation}
-use Rattle.vk_port.specs.declared.commands.Batch.{Batch}
+use Rattle.vk_types.specs.declared.batches.Batch.{Batch}
 use Rattle.vk_port.specs.Journal.{next_number}
 use Rattle.sys_core.specs.declared.parts.Held.{Held}
 use Rattle.sys_core.specs.Batches.{batch_by, is_small_operation}

@@ -1,5 +1,5 @@
 use Rattle.std.proofs.Common.{◌∙◌}
-use Rattle.trace_text.proofs.Declared.{behind_cut}
+use Rattle.trace_text.proofs.DeclaredLines.{behind_cut}
 use Rattle.trace_text.proofs.reader.read_behind.Goals as goal
 
 pub returns-in_default : goal.returns-in_default

@@ -1,7 +1,7 @@
 use Rattle.std.proofs.Common.{map}
 use Rattle.trace_text.specs.declared.reader.TheConstants.{ROUNDS}
 use Rattle.trace_text.specs.Form.{rounds_of}
-use Rattle.trace_text.proofs.Declared.{rounds_in_short}
+use Rattle.trace_text.proofs.DeclaredLines.{rounds_in_short}
 use Rattle.trace_text.proofs.Rounds.{first_rounds}
 use Rattle.trace_text.proofs.reader.read_text.Goals as goal
 

@@ -1,0 +1,4 @@
+pub mod BinaryDigits
+pub mod Layers
+pub mod Rows
+pub mod Shapes

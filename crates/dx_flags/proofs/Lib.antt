@@ -1,0 +1,10 @@
+pub mod AccessSets
+pub mod AtomFacts
+pub mod Below
+pub mod BitTests
+pub mod FitsByRows
+pub mod Named
+pub mod StateSets
+pub mod SyncSets
+pub mod TablesByNames
+pub mod WellFormed

@@ -1,0 +1,13 @@
+pub mod SyncNames
+pub mod AccessNames
+pub mod StateNames
+pub mod Bits
+pub mod Syncs
+pub mod Accesses
+pub mod States
+pub mod Parts
+pub mod Kinds
+pub mod Fits
+pub mod Layouts
+pub mod Rows
+pub mod Laws

@@ -1,0 +1,2 @@
+pub mod LegalParts
+pub mod Pairs

@@ -1,0 +1,3 @@
+pub mod Cover
+pub mod Legal
+pub mod Laws

@@ -1,0 +1,14 @@
+-- One more call of the last thread.
+use Rattle.std.proofs.Common.{ℕ, zero, suc, ◌≡◌, ◌+◌, ◌<◌, List, [], ◌∷◌, ◌++◌, length, get_or, slice_set, arith, refl, ap}
+use Rattle.d3d_machine.specs.declared.calls.Call.{Call}
+use Rattle.trace_text.specs.Scripts.{with_call}
+
+-- writing the longer script in place of the last
+pub last_grows : (ss : List (List Call)) (i : ℕ) (s t : List Call) (c : Call) → i + 1 ≡ length ss → s ≡ get_or ss i s → t ≡ s ++ c ∷ [] →
+    slice_set ss i t ≡ with_call ss c
+unfolding with_call
+last_grows [] i s t c at was grown = absurd (omega arith)
+last_grows (x ∷ []) zero s t c at was grown = cc
+last_grows (x ∷ y ∷ ss) zero s t c at was grown = absurd (omega arith)
+last_grows (x ∷ []) (suc i) s t c at was grown = absurd (omega arith)
+last_grows (x ∷ y ∷ ss) (suc i) s t c at was grown = ap (λ more. x ∷ more) (last_grows (y ∷ ss) i s t c (omega arith) was grown)

@@ -1,0 +1,10 @@
+use Rattle.std.proofs.Common.{◌≡◌, map, drop}
+use Rattle.trace_text.specs.Parts.{list_named}
+use Rattle.trace_text.specs.Shapes.{each_of}
+use Rattle.trace_text.proofs.Each.{behind_of}
+use Rattle.trace_text.proofs.parts.lists.Given as goal
+
+abbrev pub invariant-loop-word : goal.invariant-loop-word
+invariant-loop-word l =
+    behind_of l.found (each_of (list_named l.names) (map (λ word. word.now) (drop l.word-index l.words)))
+    ≡ each_of (list_named l.names) (map (λ word. word.now) l.words)

@@ -1,0 +1,138 @@
+//! The names of objects by kind, to print ids.
+
+ghost use Rattle.std.specs.Prelude.{◌≡◌, [], map, slice_get, IfOk, OnOk};
+ghost use Rattle.std.specs.Option.{option_copied};
+ghost use Rattle.trace_text.specs.Known.{with_name, known_names};
+ghost use Rattle.trace_text.specs.Names.{name_at};
+
+use crate::object::Declared;
+use crate::things::Kind;
+use dx_base::{AllocatorId, FenceId, ListId, Memory, QueueId, ResourceId};
+use std::alloc::Global;
+use std::marker::Model;
+use trace_words::Name;
+
+/// The names of the objects of each kind, in order.
+#[derive(Drop)]
+pub struct Known<'a> {
+    queues: Vec<&'a Name>,
+    fences: Vec<&'a Name>,
+    resources: Vec<&'a Name>,
+    allocators: Vec<&'a Name>,
+    lists: Vec<&'a Name>,
+}
+
+impl<'a> Model for Known<'a> {
+    ghost use Rattle.std.specs.Prelude.{map};
+    ghost use Rattle.trace_text.specs.Known.{KnownNames};
+
+    ghost Value = { KnownNames };
+
+    ghost view = { λ k. record {
+      queues = map (λ n. n.now) k.queues.items;
+      fences = map (λ n. n.now) k.fences.items;
+      resources = map (λ n. n.now) k.resources.items;
+      allocators = map (λ n. n.now) k.allocators.items;
+      lists = map (λ n. n.now) k.lists.items;
+    } };
+}
+
+/// The name of that place.
+fn nth(names: &[Name], at: usize) -> Option<&Name>
+    ensures { option_copied result ≡ slice_get names.now at }
+{
+    names.get(at)
+}
+
+/// The name of that place; empty where there is none.
+pub fn name_of(names: &[Name], at: usize) -> &[u8]
+    ensures { result.now ≡ name_at names.now at }
+{
+    match names.get(at) {
+        Some(name) => name.as_bytes(),
+        None => b"",
+    }
+}
+
+/// The name of that place; empty where there is none.
+fn known_name<'a>(names: &[&'a Name], at: usize) -> &'a [u8]
+    ensures { result.now ≡ name_at (map (λ n. n.now) names.now) at }
+{
+    match names.get(at) {
+        Some(name) => name.as_bytes(),
+        None => b"",
+    }
+}
+
+impl<'a> Known<'a> {
+    /// No names; takes no memory.
+    fn new(alloc: Global) -> Known<'a>
+        ensures { result ≡ record { queues = []; fences = []; resources = []; allocators = []; lists = [] } }
+    {
+        Known {
+            queues: Vec::new(alloc),
+            fences: Vec::new(alloc),
+            resources: Vec::new(alloc),
+            allocators: Vec::new(alloc),
+            lists: Vec::new(alloc),
+        }
+    }
+
+    /// Adds the name of an object of a kind.
+    fn add(&mut self, kind: Kind, name: &'a Name) -> Result<(), Memory>
+        ensures { OnOk result (self.new ≡ with_name kind name.now self.old) }
+    {
+        match kind {
+            Kind::Queue => self.queues.push(name)?,
+            Kind::Fence => self.fences.push(name)?,
+            Kind::Resource => self.resources.push(name)?,
+            Kind::Allocator => self.allocators.push(name)?,
+            Kind::List => self.lists.push(name)?,
+            Kind::Thread => (),
+        }
+        Ok(())
+    }
+
+    /// The names of the declared objects.
+    pub fn of(alloc: Global, names: &'a [Name], declared: &[Declared]) -> Result<Known<'a>, Memory>
+        ensures { IfOk result (λ known. known ≡ known_names names.now declared.now) }
+    {
+        let mut known = Known::new(alloc);
+        for at in 0..declared.len() {
+            if let Some(name) = nth(names, at) {
+                known.add(declared[at].kind(), name)?;
+            }
+        }
+        Ok(known)
+    }
+
+    pub fn queue(&self, queue: QueueId) -> &'a [u8]
+        ensures { result.now ≡ name_at self.now.queues queue.0 }
+    {
+        known_name(&self.queues, queue.0 as usize)
+    }
+
+    pub fn fence(&self, fence: FenceId) -> &'a [u8]
+        ensures { result.now ≡ name_at self.now.fences fence.0 }
+    {
+        known_name(&self.fences, fence.0 as usize)
+    }
+
+    pub fn resource(&self, resource: ResourceId) -> &'a [u8]
+        ensures { result.now ≡ name_at self.now.resources resource.0 }
+    {
+        known_name(&self.resources, resource.0 as usize)
+    }
+
+    pub fn allocator(&self, allocator: AllocatorId) -> &'a [u8]
+        ensures { result.now ≡ name_at self.now.allocators allocator.0 }
+    {
+        known_name(&self.allocators, allocator.0 as usize)
+    }
+
+    pub fn list(&self, list: ListId) -> &'a [u8]
+        ensures { result.now ≡ name_at self.now.lists list.0 }
+    {
+        known_name(&self.lists, list.0 as usize)
+    }
+}

@@ -1,0 +1,126 @@
+//! Forms of lines that come later.
+
+ghost use Rattle.std.specs.Prelude.{◌≡◌, map};
+ghost use Rattle.trace_words.specs.Rows.{is_among};
+ghost use Rattle.trace_text.specs.Later.{later_words, later_versions, later_types, later_homes, has_first, has_second, is_later_kind};
+
+use crate::keyword::Keyword;
+use trace_words::is_among;
+
+/// First words of forms that come later.
+const WORDS: [&str; 21] = [
+    "texture",
+    "view",
+    "heap",
+    "signature",
+    "copytex",
+    "copyin",
+    "copyout",
+    "setheap",
+    "setroot",
+    "setconst",
+    "settable",
+    "setbuffer",
+    "clear",
+    "dispatch",
+    "barrier",
+    "transition",
+    "uavbarrier",
+    "resetalloc",
+    "wait",
+    "descriptor",
+    "copydesc",
+];
+
+/// Versions of the text that come later.
+const VERSIONS: [&str; 1] = ["2"];
+
+/// Types of queues, allocators and lists that come later.
+const TYPES: [&str; 2] = ["compute", "copy"];
+
+/// Places of buffers that come later.
+const HOMES: [&str; 2] = ["legacy", "enhanced"];
+
+/// The word is the first word of a form that comes later.
+pub fn is_later_word(word: &[u8]) -> bool
+    ensures { result ≡ is_among later_words word.now }
+{
+    is_among(&WORDS, word)
+}
+
+/// The word is a version that comes later.
+fn is_later_version(word: &[u8]) -> bool
+    ensures { result ≡ is_among later_versions word.now }
+{
+    is_among(&VERSIONS, word)
+}
+
+/// The word is a type that comes later.
+fn is_later_type(word: &[u8]) -> bool
+    ensures { result ≡ is_among later_types word.now }
+{
+    is_among(&TYPES, word)
+}
+
+/// The word is a place of buffers that comes later.
+fn is_later_home(word: &[u8]) -> bool
+    ensures { result ≡ is_among later_homes word.now }
+{
+    is_among(&HOMES, word)
+}
+
+/// The first word is a version that comes later.
+fn has_later_version(words: &[&[u8]]) -> bool
+    ensures { result ≡ has_first later_versions (map (λ word. word.now) words.now) }
+{
+    match words {
+        [version, ..] => is_later_version(version),
+        [] => false,
+    }
+}
+
+/// The second word is a type that comes later.
+fn has_later_type(words: &[&[u8]]) -> bool
+    ensures { result ≡ has_second later_types (map (λ word. word.now) words.now) }
+{
+    match words {
+        [_, kind, ..] => is_later_type(kind),
+        _ => false,
+    }
+}
+
+/// The second word is a place of buffers that comes later.
+fn has_later_home(words: &[&[u8]]) -> bool
+    ensures { result ≡ has_second later_homes (map (λ word. word.now) words.now) }
+{
+    match words {
+        [_, home, ..] => is_later_home(home),
+        _ => false,
+    }
+}
+
+/// The words behind a first word make it a form that comes later, whatever stands behind the word that tells. So do a
+/// second queue and a second thread.
+pub fn is_later_kind(has_queue: bool, has_thread: bool, keyword: Keyword, words: &[&[u8]]) -> bool
+    ensures { result ≡ is_later_kind has_queue has_thread keyword (map (λ word. word.now) words.now) }
+{
+    match keyword {
+        Keyword::D3dtrace => has_later_version(words),
+        Keyword::Queue => has_queue || has_later_type(words),
+        Keyword::Buffer => has_later_home(words),
+        Keyword::Allocator | Keyword::List => has_later_type(words),
+        Keyword::Thread => has_thread,
+        Keyword::Fence
+        | Keyword::Write
+        | Keyword::Reset
+        | Keyword::Copy
+        | Keyword::Close
+        | Keyword::Execute
+        | Keyword::Signal
+        | Keyword::HostSignal
+        | Keyword::HostWait
+        | Keyword::Value
+        | Keyword::Read
+        | Keyword::End => false,
+    }
+}

@@ -1,0 +1,108 @@
+//! Texts of traces: each is read, or refused at its first bad line with the first cause.
+
+use crate::{Cause, TraceFault, read_trace, world};
+use d3d_machine::Resource;
+use dx_base::{Home, Memory};
+use std::alloc::Global;
+use std::test::Fail;
+
+/// The line and the cause of a refusal; None where the text is read.
+fn refusal(alloc: Global, text: &str) -> Result<Option<(u64, Cause)>, Memory> {
+    match read_trace(alloc, text.as_bytes()) {
+        Ok(_) => Ok(None),
+        Err(TraceFault::Refused(line, cause)) => Ok(Some((line, cause))),
+        Err(TraceFault::Memory) => Err(Memory),
+    }
+}
+
+/// Texts that are refused, with the line and the cause.
+fn refused_texts() -> [(&'static str, u64, Cause); 22] {
+    [
+        ("", 1, Cause::Cut),
+        ("d3dtrace 1\n", 2, Cause::Cut),
+        ("d3dtrace 1\nqueue q dir", 2, Cause::Cut),
+        ("d3dtrace 1\nend\n\n", 3, Cause::After),
+        ("d3dtrace 1\nfence f\t0\nend\n", 2, Cause::Line),
+        ("d3dtrace 1\n# comment\n\nfence f\t0\nend\n", 4, Cause::Line),
+        ("d3dtrace 2\nend\n", 1, Cause::Later),
+        ("d3dtrace 1\nqueue q compute\nend\n", 2, Cause::Later),
+        ("d3dtrace 1\nview v uav d 0 256\nend\n", 2, Cause::Later),
+        (
+            "d3dtrace 1\nqueue q direct\nqueue r direct\nend\n",
+            3,
+            Cause::Later,
+        ),
+        ("d3dtrace 1\nthread t\nthread x\nend\n", 3, Cause::Later),
+        ("d3dtrace 1\nvalue f\nend\n", 2, Cause::Order),
+        ("d3dtrace 1\nthread t\nfence f 0\nend\n", 3, Cause::Order),
+        ("d3dtrace 1\nd3dtrace 1\nend\n", 2, Cause::Order),
+        ("fence f 0\nend\n", 1, Cause::Form),
+        ("d3dtrace 1\nfoo\nend\n", 2, Cause::Form),
+        ("d3dtrace 1\nfence f  0\nend\n", 2, Cause::Form),
+        (
+            "d3dtrace 1\nfence f 18446744073709551616\nend\n",
+            2,
+            Cause::Number,
+        ),
+        (
+            "d3dtrace 1\nqueue q direct\nfence q 0\nend\n",
+            3,
+            Cause::Again,
+        ),
+        (
+            "d3dtrace 1\nqueue q direct\nthread t\nvalue q\nend\n",
+            4,
+            Cause::Name,
+        ),
+        ("d3dtrace 1\nthread t\nvalue f\nend\n", 3, Cause::Name),
+        (
+            "d3dtrace 1\nfence a12345678901234567890123456789012 0\nend\n",
+            2,
+            Cause::Limit,
+        ),
+    ]
+}
+
+#[test]
+fn each_bad_text_is_refused_at_its_line_with_its_cause(rt: HostRuntime) -> Result<(), Fail> {
+    for (text, line, cause) in refused_texts() {
+        assert_eq!(rt; refusal(rt.alloc(), text)?, Some((line, cause)));
+    }
+    Ok(())
+}
+
+#[test]
+fn texts_of_the_grammar_are_read(rt: HostRuntime) -> Result<(), Fail> {
+    let texts = [
+        "d3dtrace 1\nend\n",
+        "# before\n\nd3dtrace 1\n#\nend\n",
+        "d3dtrace 1\nfence a1234567890123456789012345678901 18446744073709551615\nend\n",
+        "d3dtrace 1\nqueue q direct\nfence f 0\nthread t\nsignal q f 1\nhostsignal f 2\nvalue f\nhostwait f 1\nexecute q\nend\n",
+        "d3dtrace 1\nbuffer z upload 0\nthread t\nwrite z 0 1\nend\n",
+    ];
+    for text in texts {
+        assert_eq!(rt; refusal(rt.alloc(), text)?, None);
+    }
+    Ok(())
+}
+
+/// The resources of the world of a text.
+fn resources(alloc: Global, text: &str) -> Result<Vec<Option<Resource>>, TraceFault> {
+    let trace = read_trace(alloc, text.as_bytes())?;
+    Ok(world(alloc, &trace)?.resources.into_vec())
+}
+
+#[test]
+fn a_buffer_whose_creation_is_refused_is_dead(rt: HostRuntime) -> Result<(), Fail> {
+    let text =
+        "d3dtrace 1\nbuffer u upload 16\nbuffer z upload 0\nbuffer b readback 1048580\nend\n";
+    let live = Resource::Buffer {
+        home: Home::Upload,
+        words: 4,
+    };
+    match resources(rt.alloc(), text) {
+        Ok(found) => assert_eq!(rt; found.as_slice(), [Some(live), None, None].as_slice()),
+        Err(_) => panic!(rt; "the text is not read"),
+    }
+    Ok(())
+}

@@ -1,0 +1,5 @@
+pub mod Names
+pub mod Stages
+pub mod Accesses
+pub mod Support
+pub mod Supported
