@@ -201,8 +201,8 @@ fn a_layout_allows_a_set_where_it_allows_each_kind(rt: HostRuntime) -> Result<()
 }
 
 #[test]
-fn well_formed_sets_are_named_and_alone_where_they_must(rt: HostRuntime) -> Result<(), Fail> {
-    let syncs = [
+fn none_and_all_stand_alone(rt: HostRuntime) -> Result<(), Fail> {
+    let rows = [
         (0, false),
         (1, true),
         (2, true),
@@ -220,10 +220,15 @@ fn well_formed_sets_are_named_and_alone_where_they_must(rt: HostRuntime) -> Resu
         (128, false),
         (160, false),
     ];
-    for (bits, well_formed) in syncs {
+    for (bits, well_formed) in rows {
         assert_eq!(rt; Sync(bits).is_well_formed(), well_formed);
     }
-    let accesses = [
+    Ok(())
+}
+
+#[test]
+fn common_and_no_access_stand_alone(rt: HostRuntime) -> Result<(), Fail> {
+    let rows = [
         (0, false),
         (1, true),
         (2, true),
@@ -240,7 +245,7 @@ fn well_formed_sets_are_named_and_alone_where_they_must(rt: HostRuntime) -> Resu
         (128, false),
         (129, false),
     ];
-    for (bits, well_formed) in accesses {
+    for (bits, well_formed) in rows {
         assert_eq!(rt; Access(bits).is_well_formed(), well_formed);
     }
     Ok(())

@@ -1,0 +1,8 @@
+pub mod Marks
+pub mod United
+pub mod SyncStages
+pub mod AccessBits
+pub mod ImageLayouts
+pub mod StateSides
+pub mod SupportedSides
+pub mod TextsBothWays

@@ -1,0 +1,11 @@
+pub mod Rows
+pub mod Unions
+pub mod Stages
+pub mod Accesses
+pub mod Layouts
+pub mod States
+pub mod Names
+pub mod Whole
+pub mod Made
+pub mod Pairs
+pub mod Laws

@@ -1,0 +1,44 @@
+//! Laws of the tables. The functions do nothing.
+
+ghost use Rattle.lower_tables.specs.Laws.{NamesAreOfSingles, NamesGoBothWays, StagesTakeInParts, AccessesTakeInKinds, SyncsHaveStages, LayoutsAllowKinds, StatesTakeInPairs, LoweredIsSupported};
+
+/// A text names a value exactly where it is the text of a single name, and the value that name alone.
+pub fn names_are_of_singles()
+    ensures { NamesAreOfSingles }
+{}
+
+/// What goes by a name comes back: a text names a value exactly where the value has that text.
+pub fn names_go_both_ways()
+    ensures { NamesGoBothWays }
+{}
+
+/// Where a set of syncs has a part, its stages stand for the stage of the part's commands.
+pub fn stages_take_in_parts()
+    ensures { StagesTakeInParts }
+{}
+
+/// Where a set of accesses has a kind, its memory accesses stand for those of the kind's commands.
+pub fn accesses_take_in_kinds()
+    ensures { AccessesTakeInKinds }
+{}
+
+/// Each well-formed set of syncs has a stage of the device.
+pub fn syncs_have_stages()
+    ensures { SyncsHaveStages }
+{}
+
+/// Where a layout allows a kind, the image's layout allows the memory accesses of the kind's commands.
+pub fn layouts_allow_kinds()
+    ensures { LayoutsAllowKinds }
+{}
+
+/// Where a state has a part and a kind, its stages and memory accesses stand for those of the commands.
+pub fn states_take_in_pairs()
+    ensures { StatesTakeInPairs }
+{}
+
+/// The lowered form of a legal barrier names no access that its stages do not support, on both sides; nor
+/// does that of a state or of a UAV barrier (Vulkan 1.3, 7.1.3, the table of supported access types).
+pub fn lowered_is_supported()
+    ensures { LoweredIsSupported }
+{}
