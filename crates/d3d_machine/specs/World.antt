@@ -1,5 +1,5 @@
 -- A world: its objects, and what a call may name.
-use Rattle.std.specs.Prelude.{ℕ, ◌≡◌, ◌≤◌, ◌+◌, ◌*◌, ◌%◌, ◌==◌, ◌&&◌, nat_lt, nat_le, Bool, true, false, length, slice_get, Option, Some, None, is_some}
+use Rattle.std.specs.Prelude.{ℕ, ◌≡◌, ◌≤◌, ◌+◌, ◌*◌, ◌%◌, ◌==◌, ◌&&◌, nat_lt, nat_le, Bool, true, false, length, slice_get, Option, Some, None}
 use Rattle.std.specs.List.{list_all}
 use Rattle.dx_base.specs.declared.kinds.Home.{Home}
 use Rattle.dx_base.specs.declared.kinds.Home.TheVariants as home
@@ -84,11 +84,10 @@ abbrev pub is_small_resource : Option Resource → Bool
 is_small_resource None = true
 is_small_resource (Some (Buffer h n)) = nat_le n 262144
 
--- a valid world: its calls name objects of it, its objects keep the limits, it has one queue, and each resource lives
+-- a valid world: its calls name objects of it, its objects keep the limits, and it has at most one queue
 pub record IsWorld (w : World) : Type 0 where
   pub named : are_named w ≡ true
-  pub one_queue : length w.queues ≡ 1
+  pub few_queues : length w.queues ≤ 1
   pub threads : length w.scripts ≤ 16
   pub resources : length w.resources ≤ 4096
   pub sizes : list_all is_small_resource w.resources ≡ true
-  pub live : list_all (λ o. is_some o) w.resources ≡ true

@@ -1,11 +1,11 @@
 //! The program `d3dsim`: reads a trace, runs it on the plain device, and writes the output.
 #![tactic(auto)]
 
-use chooser::ListChooser;
+use chooser::PcgChooser;
 use std::process::ExitCode;
 use std::{env, io};
-use sys_core::simulate;
 use text_io::{Sink, StdSink, StdSource, write_all};
+use trace_runner::simulate;
 use trace_text::{Status, plain_line};
 use vk_port::PlainDevice;
 
@@ -32,7 +32,7 @@ fn run(rt: HostRuntime) -> Status {
     let mut source = StdSource::new(rt.stdin());
     let mut sink = StdSink::new(rt.stdout());
     let device = PlainDevice::new(alloc, Vec::new(alloc));
-    let mut choices = ListChooser::new(alloc, Vec::new(alloc));
+    let mut choices = PcgChooser::new(alloc);
     let no_text = [String::new(alloc)];
     let words = words(&rt);
     let words = match &words {

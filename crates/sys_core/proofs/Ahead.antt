@@ -1,8 +1,10 @@
 -- The device's words with what it has yet to do stay the machine's memory with what it has yet to complete.
-use Rattle.std.proofs.Common.{ℕ, zero, suc, ◌≡◌, ◌<◌, ◌≤◌, ◌-◌, ◌∙◌, sym, ap, refl, arith, List, [], ◌∷◌, ◌++◌, length, drop, map, replicate, Some, None, Option, true, false, slice_get, get_or, is_some, append-nil}
+use Rattle.std.proofs.Common.{ℕ, zero, suc, ◌≡◌, ◌<◌, ◌≤◌, ◌-◌, ◌∙◌, sym, ap, refl, arith, List, [], ◌∷◌, ◌++◌, length, drop, map, replicate, Some, None, Option, Bool, true, false, slice_get, get_or, append-nil}
 use Rattle.std.specs.List.{list_all}
+use Rattle.std.specs.Prelude.{nat_lt, if◌then◌else◌}
 use Rattle.std.proofs.lemmas.List.{drop-append-le, length-drop, length-map}
 use Rattle.dx_base.specs.Lists.{changed_at}
+use Rattle.dx_base.proofs.Lists.{and_both}
 use Rattle.dx_base.specs.declared.ids.ThreadId.{ThreadId}
 use Rattle.dx_base.specs.declared.kinds.ListType.{ListType}
 use Rattle.d3d_machine.specs.declared.world.World.{World}
@@ -11,54 +13,77 @@ use Rattle.d3d_machine.specs.declared.world.Resource.TheVariants.{Buffer}
 use Rattle.d3d_machine.specs.declared.events.Operation.{Operation}
 use Rattle.d3d_machine.specs.declared.events.Event.{Event}
 use Rattle.d3d_machine.specs.declared.events.Event.TheVariants as event
-use Rattle.d3d_machine.specs.World.{IsWorld}
 use Rattle.d3d_machine.specs.State.{State, first_state, zeros, called_of}
 use Rattle.d3d_machine.specs.Effects.{memory_after, memory_after_operation, head_of, after, after_all, desk_after}
 use Rattle.d3d_machine.specs.Play.{IsRunButWords, SameButWords, state_after}
+use Rattle.d3d_machine.specs.Good.{is_good_operation}
+use Rattle.d3d_machine.proofs.Good.{operations_are_good}
 use Rattle.d3d_machine.specs.Operations.{operations, counter, completions_by, called_by}
 use Rattle.d3d_machine.proofs.Operations.{operations_append, counter_append, called_after, called_step, HoldsRest}
 use Rattle.d3d_machine.proofs.Runs.{state_after_append}
 use Rattle.vk_types.specs.declared.batches.Batch.{Batch}
 use Rattle.vk_types.specs.declared.commands.VkCommand.{VkCommand}
 use Rattle.vk_port.specs.declared.lanes.Running.{Running}
-use Rattle.vk_port.specs.After.{lane_after_submit, after_submit}
+use Rattle.vk_port.specs.After.{lane_after_submit}
 use Rattle.vk_port.specs.Enabled.{unmarked}
 use Rattle.vk_port.specs.Journal.{of_queue}
-use Rattle.vk_port.specs.Valid.{IsLane, batch_of}
+use Rattle.vk_port.specs.Valid.{IsLane, Matches, batch_of}
 use Rattle.vk_port.specs.VkState.{VkState, lane_of, no_lane, first_words}
 use Rattle.vk_port.specs.VkState as vulkan
 use Rattle.vk_port.proofs.Lists.{item_at}
-use Rattle.sys_core.specs.Lowering.{plan_buffers, plan_of_world, startup}
+use Rattle.sys_core.specs.Lowering.{plan_buffers, plan_of_world, startup, opening_batches}
+use Rattle.sys_core.specs.Memory.{spread, memory_of}
 use Rattle.sys_core.specs.Stands.{StandsAt}
-use Rattle.sys_core.specs.Steps.{submitted_of}
+use Rattle.sys_core.specs.Steps.{submitted_of, after_submits}
 use Rattle.sys_core.specs.Consistent.{IsDevice}
 use Rattle.sys_core.specs.Ahead.{run_commands, batches_undone, memory_ahead, held_commands, IsAhead, IsQuiet}
 use Rattle.sys_core.proofs.Standing.{submitted_is}
-use Rattle.sys_core.proofs.Undone.{run_append, ahead_append, held_is_effect}
+use Rattle.sys_core.proofs.Undone.{run_append, ahead_append}
+use Rattle.sys_core.proofs.Effect.{run_length, held_is_effect}
+use Rattle.sys_core.proofs.Spread.{as_many}
+use Rattle.sys_core.proofs.Startup.{begins_of}
+
+-- a fact of all holds of those past the first
+all_drop : {A : Type 0} (p : A → Bool) (n : ℕ) (xs : List A) → list_all p xs ≡ true → list_all p (drop n xs) ≡ true
+all_drop p zero xs all = all
+all_drop p (suc n) [] all = refl
+all_drop p (suc n) (x ∷ xs) all = all_drop p n xs (and_both (p x) (list_all p xs) all).1
 
 -- the claim, with the commands of the operations that are not submitted in place of what they do
-pub ahead_in_commands : (w : World) (h : List Event) (v : VkState) → IsAhead w h v →
-    run_commands (batches_undone (lane_of v 0).batches ++ held_commands (drop (submitted_of v 0) (operations w h 0))) v.words
+pub ahead_in_commands : (w : World) (h : List Event) (v : VkState) → Matches (plan_of_world w) v → IsAhead w h v →
+    memory_of w (run_commands (batches_undone (lane_of v 0).batches ++ held_commands w (drop (submitted_of v 0) (operations w h 0))) v.words)
     ≡ memory_ahead (drop (counter h 0) (operations w h 0)) (state_after w h).memory
-ahead_in_commands w h v is =
+ahead_in_commands w h v objects is =
     let us : List VkCommand = batches_undone (lane_of v 0).batches in
     let os : List Operation = drop (submitted_of v 0) (operations w h 0) in
-    run_append us (held_commands os) v.words ∙ held_is_effect os (run_commands us v.words) ∙ is.ahead
+    let good : list_all (is_good_operation w) os ≡ true = all_drop (is_good_operation w) (submitted_of v 0) (operations w h 0) (operations_are_good w h 0) in
+    ap (memory_of w) (run_append us (held_commands w os) v.words)
+    ∙ held_is_effect w os (run_commands us v.words) (run_length us v.words ∙ as_many w v objects) good ∙ is.ahead
 
-first_memory : (rs : List (Option Resource)) → list_all (λ o. is_some o) rs ≡ true → map first_words (plan_buffers rs) ≡ map zeros rs
-first_memory [] live = refl
-first_memory (None ∷ rs) live = absurd (cc)
-first_memory (Some (Buffer h n) ∷ rs) live = ap (λ ms. replicate n 0 ∷ ms) (first_memory rs live)
+first_memory : (rs : List (Option Resource)) → spread rs (map first_words (plan_buffers rs)) ≡ map zeros rs
+first_memory [] = refl
+first_memory (None ∷ rs) = ap (λ ms. [] ∷ ms) (first_memory rs)
+first_memory (Some (Buffer h n) ∷ rs) = ap (λ ms. replicate n 0 ∷ ms) (first_memory rs)
 
 nothing_to_do : (n : ℕ) (b : Batch) → b.commands ≡ [] → batches_undone (get_or (changed_at (lane_after_submit b) 0 (replicate n no_lane)) 0 no_lane).batches ≡ []
 nothing_to_do zero b none = refl
 nothing_to_do (suc n) b none = ap (λ cs. unmarked cs (replicate (length b.commands) false) ++ []) none
 
+no_lanes : (n : ℕ) → batches_undone (get_or (replicate n no_lane) 0 no_lane).batches ≡ []
+no_lanes zero = refl
+no_lanes (suc n) = refl
+
 -- the start
-pub ahead_first : (w : World) → IsWorld w → IsAhead w [] (after_submit (vulkan.first_state (plan_of_world w)) (startup w))
-ahead_first w world = record {
-  ahead = ap (λ cs. run_commands cs (map first_words (plan_buffers w.resources))) (nothing_to_do (length w.queues) (startup w) refl) ∙ first_memory w.resources world.live;
-}
+pub ahead_first : (w : World) → IsAhead w [] (after_submits (vulkan.first_state (plan_of_world w)) (opening_batches w))
+ahead_first w = by_test (nat_lt 0 (length w.queues))
+  where
+    by_test : (t : Bool) → IsAhead w [] (after_submits (vulkan.first_state (plan_of_world w)) (if t then startup w ∷ [] else []))
+    by_test true = record {
+      ahead = ap (λ cs. memory_of w (run_commands cs (map first_words (plan_buffers w.resources)))) (nothing_to_do (length w.queues) (startup w) refl) ∙ first_memory w.resources;
+    }
+    by_test false = record {
+      ahead = ap (λ cs. memory_of w (run_commands cs (map first_words (plan_buffers w.resources)))) (no_lanes (length w.queues)) ∙ first_memory w.resources;
+    }
 
 -- what is submitted is called, and what is complete is submitted
 pub record IsWithin (w : World) (h : List Event) (v : VkState) : Type 0 where
@@ -69,7 +94,7 @@ pub record IsWithin (w : World) (h : List Event) (v : VkState) : Type 0 where
 pub device_within : (w : World) (h : List Event) (v : VkState) → IsDevice w h v → 0 < length w.queues → IsWithin w h v
 device_within w h v is some =
     let at : StandsAt w h is.stands.rest v 0 = is.stands.queues 0 some in
-    let count : submitted_of v 0 ≡ length (of_queue 0 is.stands.rest) = submitted_is w v is.stands.rest 0 is.stands.begins at.numbered in
+    let count : submitted_of v 0 ≡ length (of_queue 0 is.stands.rest) = submitted_is w v is.stands.rest 0 (begins_of w h v is.stands some) at.numbered in
     record { submitted = omega (arith, count, at.of_called); complete = omega (arith, count, at.done) }
 
 -- what the queue holds is what was called and is not complete
@@ -96,19 +121,19 @@ completed_memory w s (o ∷ os) is =
     completed_memory w (after w s completion) os called ∙ ap (λ y. memory_ahead os (memory_after_operation s.memory y)) head
 
 -- the claim, with the memory after the history and the completion of each called operation that is not complete
-pub ahead_in_completions : (w : World) (h : List Event) (v : VkState) → IsRunButWords w h → 0 < length w.queues → IsAhead w h v →
-    run_commands (batches_undone (lane_of v 0).batches ++ held_commands (drop (submitted_of v 0) (operations w h 0))) v.words
+pub ahead_in_completions : (w : World) (h : List Event) (v : VkState) → IsRunButWords w h → Matches (plan_of_world w) v → 0 < length w.queues → IsAhead w h v →
+    memory_of w (run_commands (batches_undone (lane_of v 0).batches ++ held_commands w (drop (submitted_of v 0) (operations w h 0))) v.words)
     ≡ (state_after w (h ++ replicate (length (drop (counter h 0) (operations w h 0))) completion)).memory
-ahead_in_completions w h v run some is =
+ahead_in_completions w h v run objects some is =
     let os : List Operation = drop (counter h 0) (operations w h 0) in
     let first : (x : ListType) × (slice_get w.queues 0 ≡ Some x) = item_at w.queues 0 some in
     let holds : HoldsRest (state_after w h).desk 0 (counter h 0) (operations w h 0) = called_after SameButWords w 0 h first.0 first.1 run in
-    ahead_in_commands w h v is ∙ sym (completed_memory w (state_after w h) os holds.rest)
+    ahead_in_commands w h v objects is ∙ sym (completed_memory w (state_after w h) os holds.rest)
     ∙ ap (λ (s : State). s.memory) (sym (after_both w (first_state w) h (replicate (length os) completion)))
 
 -- an event that completes nothing, where words and memory change alike
 pub ahead_event : (w : World) (h : List Event) (e : Event) (v : VkState) (words : List (List ℕ)) → IsWithin w h v → completions_by 0 e ≡ 0 →
-    memory_ahead (drop (submitted_of v 0) (operations w h 0)) (run_commands (batches_undone (lane_of v 0).batches) words)
+    memory_ahead (drop (submitted_of v 0) (operations w h 0)) (memory_of w (run_commands (batches_undone (lane_of v 0).batches) words))
     ≡ memory_ahead (drop (counter h 0) (operations w h 0)) (memory_after w (state_after w h) e) → IsAhead w (h ++ e ∷ []) (record v { words = words })
 ahead_event w h e v words within none same =
     let os : List Operation = operations w h 0 in
@@ -116,7 +141,7 @@ ahead_event w h e v words within none same =
     let now : List Operation = operations w (h ++ e ∷ []) 0 in
     let s : ℕ = submitted_of v 0 in
     let c : ℕ = counter h 0 in
-    let x : List (List ℕ) = run_commands (batches_undone (lane_of v 0).batches) words in
+    let x : List (List ℕ) = memory_of w (run_commands (batches_undone (lane_of v 0).batches) words) in
     let m : List (List ℕ) = memory_after w (state_after w h) e in
     let all : now ≡ os ++ by = operations_append w (first_state w) 0 h e in
     let count : c ≡ counter (h ++ e ∷ []) 0 = omega (arith, counter_append 0 h e, none) in
@@ -162,11 +187,12 @@ quiet_is_idle w h v run is some quiet =
     let rest : List Batch = is.stands.rest in
     let at : StandsAt w h rest v 0 = is.stands.queues 0 some in
     let lane : IsLane (of_queue 0 v.journal) (lane_of v 0) = is.valid.lanes 0 in
-    let begins : of_queue 0 v.journal ≡ startup w ∷ of_queue 0 rest = ap (of_queue 0) is.stands.begins in
+    let journal : v.journal ≡ startup w ∷ rest = begins_of w h v is.stands some in
+    let begins : of_queue 0 v.journal ≡ startup w ∷ of_queue 0 rest = ap (of_queue 0) journal in
     let within : IsWithin w h v = device_within w h v is some in
     let called : drop (counter h 0) (operations w h 0) ≡ [] = sym (called_now w h run some) ∙ quiet.none_called 0 in
     let through : length (operations w h 0) - counter h 0 ≡ 0 = sym (length-drop (counter h 0) (operations w h 0)) ∙ ap length called in
-    let count : submitted_of v 0 ≡ length (of_queue 0 rest) = submitted_is w v rest 0 is.stands.begins at.numbered in
+    let count : submitted_of v 0 ≡ length (of_queue 0 rest) = submitted_is w v rest 0 journal at.numbered in
     let long : length (lane_of v 0).batches ≡ length (of_queue 0 v.journal) - lane.finished = sym (length-map (lane_of v 0).batches batch_of) ∙ ap length lane.are_last ∙ length-drop lane.finished (of_queue 0 v.journal) in
     let all : lane.finished - 1 ≡ length (of_queue 0 rest) =
     omega (arith, is.finished 0 some, long, lane.ended, ap length begins, within.submitted, within.complete, through, count) in
@@ -177,8 +203,8 @@ quiet_is_idle w h v run is some quiet =
     }
 
 -- where nothing is left to do, the device's words are the machine's memory
-pub idle_words : (w : World) (h : List Event) (v : VkState) → IsAhead w h v → IsIdle w h v → v.words ≡ (state_after w h).memory
+pub idle_words : (w : World) (h : List Event) (v : VkState) → IsAhead w h v → IsIdle w h v → memory_of w v.words ≡ (state_after w h).memory
 idle_words w h v is idle =
-    ap (λ cs. run_commands cs v.words) (sym idle.undone)
-    ∙ ap (λ os. memory_ahead os (run_commands (batches_undone (lane_of v 0).batches) v.words)) (sym idle.held)
+    ap (λ cs. memory_of w (run_commands cs v.words)) (sym idle.undone)
+    ∙ ap (λ os. memory_ahead os (memory_of w (run_commands (batches_undone (lane_of v 0).batches) v.words))) (sym idle.held)
     ∙ is.ahead ∙ ap (λ os. memory_ahead os (state_after w h).memory) idle.called

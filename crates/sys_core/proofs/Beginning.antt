@@ -3,26 +3,25 @@ use Rattle.std.proofs.Common.{◌≡◌, ◌∙◌, sym, ap, subst, [], ◌∷�
 use Rattle.d3d_machine.specs.declared.world.World.{World}
 use Rattle.d3d_machine.specs.World.{IsWorld}
 use Rattle.d3d_machine.specs.State.{declared_list}
-use Rattle.vk_types.specs.declared.batches.Batch.{Batch}
 use Rattle.vk_types.specs.declared.plan.DevicePlan.{DevicePlan}
 use Rattle.vk_port.specs.VkState.{VkState, first_state}
-use Rattle.vk_port.specs.After.{after_submit}
 use Rattle.sys_core.specs.declared.parts.Parts.{Parts}
-use Rattle.sys_core.specs.Lowering.{plan_of_world, startup}
+use Rattle.sys_core.specs.Lowering.{plan_of_world, opening_batches, AreNumbers}
 use Rattle.sys_core.specs.Parts.{queued, updates_in, no_queue, opening_seat}
 use Rattle.sys_core.specs.Consistent.{IsConsistent}
 use Rattle.sys_core.specs.Keeps.{Keeps}
-use Rattle.sys_core.proofs.Opening.{opened, consistent_open}
+use Rattle.sys_core.proofs.Opening.{consistent_open}
+use Rattle.sys_core.specs.Opened.{opened}
+use Rattle.sys_core.specs.Steps.{after_submits}
 
--- the device when its objects are made and the start-up batch is submitted
-pub is_opened : (w : World) (plan : DevicePlan) (b : Batch) (v u : VkState) → plan ≡ plan_of_world w → b ≡ startup w → v ≡ first_state plan → u ≡ after_submit v b → u ≡ opened w
-is_opened w plan b v u planned batch made submitted =
-    submitted ∙ ap (λ x. after_submit x b) (made ∙ ap first_state planned) ∙ ap (after_submit (first_state (plan_of_world w))) batch
+-- the device when its objects are made and the batches before any call are submitted
+pub is_opened : (w : World) (plan : DevicePlan) (v u : VkState) → plan ≡ plan_of_world w → v ≡ first_state plan → u ≡ after_submits v (opening_batches w) → u ≡ opened w
+is_opened w plan v u planned made submitted = submitted ∙ ap (λ x. after_submits x (opening_batches w)) (made ∙ ap first_state planned)
 
 pub begins : {D : Type 0} (state : D → VkState) (plan_of : D → Option DevicePlan) (w : World) → IsWorld w → (p : Parts) (d : D) →
     p.lists ≡ map (λ _. declared_list) w.lists → p.seats ≡ map (λ _. opening_seat) w.scripts → map updates_in p.fences ≡ map (λ v. v ∷ []) w.fences →
-    map queued p.held ≡ map (λ _. no_queue) w.queues → state d ≡ opened w → plan_of d ≡ Some (plan_of_world w) → Keeps state plan_of w [] p d
-begins state plan_of w world p d lists seats fences held device plan = record {
+    map queued p.held ≡ map (λ _. no_queue) w.queues → state d ≡ opened w → plan_of d ≡ Some (plan_of_world w) → AreNumbers w.resources p.numbers → Keeps state plan_of w [] p d
+begins state plan_of w world p d lists seats fences held device plan numbers = record {
   consistent =
       subst (λ v. IsConsistent w [] p.lists p.seats (map updates_in p.fences) (map queued p.held) v) (sym device)
       (subst (λ x. IsConsistent w [] p.lists p.seats (map updates_in p.fences) x (opened w)) (sym held)
@@ -31,4 +30,5 @@ begins state plan_of w world p d lists seats fences held device plan = record {
       (subst (λ x. IsConsistent w [] x (map (λ _. opening_seat) w.scripts) (map (λ v. v ∷ []) w.fences) (map (λ _. no_queue) w.queues) (opened w)) (sym lists)
       (consistent_open w world)))));
   plan = plan;
+  numbers = numbers;
 }

@@ -40,7 +40,7 @@ use Rattle.vk_port.specs.Valid.{IsValid, IsLane, Matches, batch_of}
 use Rattle.vk_port.specs.VkState.{VkState, lane_of, no_lane, counter_of}
 use Rattle.vk_port.specs.After.{with_done, place_of, after_step, lane_after_bump, lane_after_pass, lane_after_run, after_sets, sets_of}
 use Rattle.sys_core.specs.declared.parts.Signalled.{Signalled}
-use Rattle.sys_core.specs.Lowering.{startup, plan_of_world}
+use Rattle.sys_core.specs.Lowering.{startup, opening_batches, plan_of_world}
 use Rattle.d3d_machine.specs.Fences.{update_of_operation, applied_updates}
 use Rattle.std.proofs.lemmas.Bool.{eq-eqb}
 use Rattle.sys_core.specs.Parts.{Queued, with_number, signal_at, without, without_first, updated_by}
@@ -49,6 +49,7 @@ use Rattle.sys_core.specs.Steps.{submitted_of}
 use Rattle.sys_core.specs.declared.parts.Seat.{Seat}
 use Rattle.sys_core.specs.Consistent.{IsHeld, AreHeld, AreFences, IsConsistent, IsDevice, finished_of, signals_of}
 use Rattle.sys_core.proofs.Standing.{submitted_is}
+use Rattle.sys_core.proofs.Startup.{begins_of, begins_by, one_queue}
 use Rattle.sys_core.proofs.Holding.{drop_here, slice_get_drop}
 use Rattle.sys_core.proofs.Lowered.{IsBatch, lowered_member, of_queue_member, number_at}
 
@@ -106,11 +107,12 @@ ending_is : (w : World) (h : List Event) (v : VkState) (n : ℕ) (b : Batch) →
 ending_is w h v n b device within first some =
     let stands : Stands w h v = device.stands in
     let n_is : n ≡ suc (n - 1) = omega arith in
+    let begins : v.journal ≡ startup w ∷ stands.rest = begins_of w h v stands within in
     let behind : slice_get (of_queue 0 stands.rest) (n - 1) ≡ Some b =
-    ap (λ k. slice_get (startup w ∷ of_queue 0 stands.rest) k) (sym n_is) ∙ ap (λ (j : List Batch). slice_get (of_queue 0 j) n) (sym stands.begins) ∙ first.at in
+    ap (λ k. slice_get (startup w ∷ of_queue 0 stands.rest) k) (sym n_is) ∙ ap (λ (j : List Batch). slice_get (of_queue 0 j) n) (sym begins) ∙ first.at in
     let member : (j : ℕ) × (slice_get stands.rest j ≡ Some b) × (b.queue ≡ 0) = of_queue_member 0 stands.rest (n - 1) b behind in
-    let found : (o : Operation) × IsBatch w h b o = lowered_member w h 0 (startup w ∷ []) stands.rest member.0 b stands.lowered_rest member.1 in
-    let count : submitted_of v 0 ≡ length (of_queue 0 stands.rest) = submitted_is w v stands.rest 0 stands.begins (stands.queues 0 within).numbered in (
+    let found : (o : Operation) × IsBatch w h b o = lowered_member w h 0 (opening_batches w) stands.rest member.0 b stands.lowered_rest member.1 in
+    let count : submitted_of v 0 ≡ length (of_queue 0 stands.rest) = submitted_is w v stands.rest 0 begins (stands.queues 0 within).numbered in (
       found.0,
       record {
         counter_is = device.finished 0 within ∙ ap (λ k. (0 + k) - 1) first.finished ∙ omega arith;
@@ -269,9 +271,9 @@ pub consistent_start : (w : World) (h : List Event) (lists : List Listed) (seats
 consistent_start w h lists seats fences held v is within enabled =
     let u : VkState = after_step v (Bumped 0 0) in
     let found : (b : Batch) × IsFirst w v 0 b = first_is w v 0 is.device.valid enabled in
-    let one : length w.queues ≡ 1 = omega (arith, is.world.one_queue) in
+    let one : length w.queues ≡ 1 = one_queue w is.world within in
     let b_is : startup w ≡ found.0 =
-    let e : Some (startup w) ≡ Some found.0 = ap (λ (j : List Batch). slice_get (of_queue 0 j) 0) (sym is.device.stands.begins) ∙ found.1.at in grind arith in
+    let e : Some (startup w) ≡ Some found.0 = ap (λ (j : List Batch). slice_get (of_queue 0 j) 0) (sym (begins_of w h v is.device.stands within)) ∙ found.1.at in grind arith in
     let sets : sets_of (lane_of v 0) ≡ (1, 1) ∷ [] = found.1.sets ∙ ap (λ (x : Batch). x.sets) (sym b_is) ∙ ap (λ k. (k, 1) ∷ []) one in
     let counters : (q : ℕ) → q < length w.queues → counter_of u q ≡ counter_of v q =
     λ q inside. ap (λ ss. get_or (after_sets ss v.timelines) q 0) sets ∙ set_elsewhere 1 q 1 v.timelines (λ e. omega (arith, inside, one, e)) in
@@ -340,8 +342,8 @@ device_end w h v q n b o is one one_more first ending valid =
           (λ p inside. subst (λ k. counter_of u k ≡ counter_of v k + completions_by k e) (let zeroth : 0 ≡ p = omega (arith, inside, one) in zeroth)
           (omega (arith, now, before, one_more, ending.some)))
           (λ p rest begins inside. subst (λ k. counter_of v k + completions_by k e ≤ length (of_queue k rest)) (let zeroth : 0 ≡ p = omega (arith, inside, one) in zeroth)
-          (let same : is.stands.rest ≡ rest = let both : startup w ∷ is.stands.rest ≡ startup w ∷ rest = sym is.stands.begins ∙ begins in grind arith in
-          let count : submitted_of v 0 ≡ length (of_queue 0 is.stands.rest) = submitted_is w v is.stands.rest 0 is.stands.begins (is.stands.queues 0 within).numbered in
+          (let same : is.stands.rest ≡ rest = let both : startup w ∷ is.stands.rest ≡ startup w ∷ rest = sym (begins_of w h v is.stands within) ∙ begins_by w v.journal rest within begins in grind arith in
+          let count : submitted_of v 0 ≡ length (of_queue 0 is.stands.rest) = submitted_is w v is.stands.rest 0 (begins_of w h v is.stands within) (is.stands.queues 0 within).numbered in
           omega (arith, before, one_more, ending.less, count, ap (λ r. length (of_queue 0 r)) same, ending.some)));
       named = is.named;
       finished = λ p inside. subst (λ k. counter (h ++ e ∷ []) k ≡ (first_number k + finished_of u k) - 1) (let zeroth : 0 ≡ p = omega (arith, inside, one) in zeroth)
@@ -357,7 +359,7 @@ pub consistent_end : (w : World) (h : List Event) (lists : List Listed) (seats :
 consistent_end w h lists seats fences held v q n x is zeroth within some enabled at =
     let u : VkState = after_step v (Bumped 0 n) in
     let e : Event = event.Queue q in
-    let one : length w.queues ≡ 1 = omega (arith, is.world.one_queue) in
+    let one : length w.queues ≡ 1 = one_queue w is.world within in
     let first : (b : Batch) × IsFirst w v n b = first_is w v n is.device.valid enabled in
     let ending : (o : Operation) × IsEnding w h v n o = ending_is w h v n first.0 is.device within first.1 some in
     let o : Operation = ending.0 in

@@ -25,7 +25,6 @@ use Rattle.d3d_machine.specs.Fences.{update_of, applied_updates, is_met}
 use Rattle.d3d_machine.proofs.Runs.{run_append, state_after_append}
 use Rattle.d3d_machine.proofs.Named.{next_is_named}
 use Rattle.d3d_machine.proofs.Marks.{met_at_call, current_is_last}
-use Rattle.d3d_machine.proofs.Sizes.{sizes_or}
 use Rattle.vk_port.specs.VkState.{VkState}
 use Rattle.d3d_machine.specs.declared.events.ListState.TheVariants.{Failed}
 use Rattle.sys_core.specs.declared.parts.Seat.{Seat}
@@ -37,11 +36,12 @@ use Rattle.d3d_machine.proofs.Operations.{counter_append}
 use Rattle.std.proofs.lemmas.Bool.Decides.{eqb_tells}
 use Rattle.std.specs.Option.{option_map}
 use Rattle.sys_core.specs.Parts.{Queued, with_operation, pushes, held_or, held_by, fences_by, woken_seat, desk_of, state_by, reply_by, lists_by, device_by, seat_after}
+use Rattle.sys_core.specs.Memory.{memory_of, device_words}
 use Rattle.sys_core.specs.Values.{last_of}
 use Rattle.sys_core.specs.Consistent.{AreSeats, AreFences, AreHeld, IsDevice, IsConsistent}
 use Rattle.sys_core.proofs.Standing.{stands_event}
 use Rattle.sys_core.proofs.Holding.{held_event}
-use Rattle.sys_core.proofs.Buffers.{same_sizes}
+use Rattle.sys_core.proofs.Buffers.{same_sizes, sizes_written_by}
 use Rattle.sys_core.proofs.Seating.{call_seat, names_a_fence, seats_call, seats_awake, fences_call, applied_append}
 use Rattle.sys_core.proofs.Values.{values_are}
 
@@ -110,10 +110,10 @@ reply_same None (call.Read b o k) s u values sizes =
 
 -- the reply by the fences' updates and the device's words is the machine's but for the words
 pub replies_alike : (w : World) (s : State) (lists : List Listed) (fences : List (List ℕ)) (v : VkState) (c : Call) → lists ≡ s.desk.lists →
-    map last_of fences ≡ s.desk.fences → map length v.words ≡ map length s.memory → SameButWords (reply_by w lists fences v c) (reply_of w s c)
+    map last_of fences ≡ s.desk.fences → map length (memory_of w v.words) ≡ map length s.memory → SameButWords (reply_by w lists fences v c) (reply_of w s c)
 replies_alike w s lists fences v c are values sizes =
-    subst (λ r. SameButWords (reply_or r (good_reply (state_by lists fences v) c)) (reply_of w s c)) (sym (refusal_is w s.desk lists c are))
-    (reply_same (refusal w s.desk c) c (state_by lists fences v) s values sizes)
+    subst (λ r. SameButWords (reply_or r (good_reply (state_by w lists fences v) c)) (reply_of w s c)) (sym (refusal_is w s.desk lists c are))
+    (reply_same (refusal w s.desk c) c (state_by w lists fences v) s values sizes)
 
 or_lists : (r : Option Hresult) (a b x y : Desk) → a.lists ≡ x.lists → b.lists ≡ y.lists → (desk_or r a b).lists ≡ (desk_or r x y).lists
 or_lists None a b x y good bad = good
@@ -282,7 +282,7 @@ pub consistent_call : (w : World) (h : List Event) (lists : List Listed) (seats 
 consistent_call w h lists seats fences held v t c is waits next =
     let r : Reply = reply_by w lists fences v c in
     let e : Event = event.Call t c r in
-    let sizes : map length v.words ≡ map length (state_after w h).memory = same_sizes w h v is.world is.device.objects in
+    let sizes : map length (memory_of w v.words) ≡ map length (state_after w h).memory = same_sizes w h v is.device.objects in
     record {
       world = is.world;
       run = run_append w h e is.run (waits, next, replies_alike w (state_after w h) lists fences v c is.lists_are (values_are w h fences is.fences_are) sizes);
@@ -290,7 +290,8 @@ consistent_call w h lists seats fences held v t c is waits next =
       seats_are = seats_are w h fences t c r seats is.seats_are is.fences_are (fence_named w c (next_is_named w (state_after w h).desk t.0 c is.world next));
       fences_are = fences_call w h t c r fences is.fences_are;
       held_are = held_are w h v (device_by w lists v c) lists held t c r is.held_are is.lists_are refl;
-      device = device_is w h e v (memory_or (refusal w (desk_of lists) c) (written c v.words) v.words) is.device (λ q. refl) (sizes_or (refusal w (desk_of lists) c) c v.words);
+      device = device_is w h e v (device_words w (memory_or (refusal w (desk_of lists) c) (written c (memory_of w v.words)) (memory_of w v.words))) is.device (λ q. refl)
+          (sizes_written_by w v (refusal w (desk_of lists) c) c is.device.objects);
     }
 
 held_awake : (w : World) (h : List Event) (v : VkState) (held : List Queued) (t : ThreadId) → AreHeld w h v held → AreHeld w (h ++ event.Awake t ∷ []) v held

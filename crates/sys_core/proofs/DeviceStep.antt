@@ -1,5 +1,5 @@
 -- What a step of the device needs, and what it leaves.
-use Rattle.std.proofs.Common.{ℕ, zero, suc, ◌≡◌, ◌<◌, ◌≤◌, ◌∙◌, sym, ap, subst, refl, arith, List, [], ◌∷◌, ◌++◌, length, map, Some, Option, get_or, ◌⊎◌, inl, inr, slice_set}
+use Rattle.std.proofs.Common.{ℕ, zero, suc, ◌≡◌, ◌<◌, ◌≤◌, ◌∙◌, sym, ap, subst, refl, arith, List, [], ◌∷◌, ◌++◌, length, map, Some, Option, get_or, ◌⊎◌, inl, inr, slice_set, IfSome}
 use Rattle.std.proofs.lemmas.List.{length-map}
 use Rattle.std.proofs.lemmas.Option.{slice_get_within, slice_get-map}
 use Rattle.std.proofs.lemmas.Bool.Decides.{leb_tells}
@@ -23,9 +23,12 @@ use Rattle.vk_port.specs.After.{after_step}
 use Rattle.vk_port.proofs.Enabled.{enabled_means}
 use Rattle.sys_core.specs.declared.parts.Held.{Held}
 use Rattle.sys_core.specs.declared.parts.Parts.{Parts}
-use Rattle.sys_core.specs.Parts.{queued, updates_in, signal_at, without, updated_by}
+use Rattle.sys_core.specs.Parts.{queued, updates_in, first_signal, signal_at, without, updated_by, HasRoomFor}
 use Rattle.sys_core.specs.Consistent.{IsConsistent}
+use Rattle.sys_core.specs.Lowering.{AreNumbers}
 use Rattle.sys_core.specs.Keeps.{Keeps}
+use Rattle.sys_core.proofs.Startup.{one_queue}
+use Rattle.sys_core.proofs.Updates.{room_numbered}
 use Rattle.sys_core.proofs.Bumping.{consistent_pass, consistent_run, consistent_start, consistent_end}
 
 -- the step that was answered is one that can be taken, or free
@@ -48,6 +51,7 @@ pub record Seems (p r : Parts) : Type 0 where
   pub seats : r.seats ≡ p.seats
   pub fences : map updates_in r.fences ≡ map updates_in p.fences
   pub held : map queued r.held ≡ map queued p.held
+  pub numbers : r.numbers ≡ p.numbers
 
 moved : (w : World) (h : List Event) (p r : Parts) (v : VkState) → Seems p r → IsConsistent w h p.lists p.seats (map updates_in p.fences) (map queued p.held) v →
     IsConsistent w h r.lists r.seats (map updates_in r.fences) (map queued r.held) v
@@ -68,6 +72,7 @@ module _ {D : Type 0} (state : D → VkState) (plan_of : D → Option DevicePlan
   keeps_goes r e v seems is after plan = record {
     consistent = subst (λ x. IsConsistent w h r.lists r.seats (map updates_in r.fences) (map queued r.held) x) (sym after) (moved w h p r v seems is);
     plan = plan ∙ keeps.plan;
+    numbers = subst (AreNumbers w.resources) (sym seems.numbers) keeps.numbers;
   }
 
   pub keeps_stays : (r : Parts) (e : D) → Seems p r → state e ≡ state d → plan_of e ≡ plan_of d → Keeps state plan_of w h r e
@@ -95,19 +100,25 @@ module _ {D : Type 0} (state : D → VkState) (plan_of : D → Option DevicePlan
         | inr free ↦ absurd (cc)
       ]
 
-  one : length w.queues ≡ 1
-  one = keeps.consistent.world.one_queue
+  -- there is the one queue where one has a batch that can end
+  one : (q n : ℕ) → (IsEnabled (state d) (Bumped q n) ⊎ (Bumped q n ≡ Free)) → length w.queues ≡ 1
+  one q n means =
+      elim means [
+        | inl enabled ↦
+            one_queue w keeps.consistent.world (omega (arith, slice_get_within (state d).lanes q enabled.lane enabled.there, keeps.consistent.device.objects.lanes))
+        | inr free ↦ absurd (cc)
+      ]
 
   -- a bump is of the one queue
   pub bump_queue : (q n : ℕ) → (IsEnabled (state d) (Bumped q n) ⊎ (Bumped q n ≡ Free)) → (q ≡ 0) × IsEnabled (state d) (Bumped q n)
   bump_queue q n means =
       elim means [
-        | inl enabled ↦ (omega (arith, slice_get_within (state d).lanes q enabled.lane enabled.there, keeps.consistent.device.objects.lanes, one), enabled)
+        | inl enabled ↦ (omega (arith, slice_get_within (state d).lanes q enabled.lane enabled.there, keeps.consistent.device.objects.lanes, one q n (inl enabled)), enabled)
         | inr free ↦ absurd (cc)
       ]
 
-  pub held_some : 0 < length p.held
-  held_some = omega (arith, length-map p.held queued, keeps.consistent.held_are.count, one)
+  pub held_some : (q n : ℕ) → (IsEnabled (state d) (Bumped q n) ⊎ (Bumped q n ≡ Free)) → 0 < length p.held
+  held_some q n means = omega (arith, length-map p.held queued, keeps.consistent.held_are.count, one q n means)
 
   -- the end of the start-up batch
   pub keeps_start : (r : Parts) (e : D) (q n : ℕ) → Seems p r → (IsEnabled (state d) (Bumped q n) ⊎ (Bumped q n ≡ Free)) → n ≡ 0 → state e ≡ after_step (state d) (Bumped q n) → plan_of e ≡ plan_of d →
@@ -117,20 +128,20 @@ module _ {D : Type 0} (state : D → VkState) (plan_of : D → Option DevicePlan
       let enabled : IsEnabled (state d) (Bumped 0 0) =
       subst (λ k. IsEnabled (state d) (Bumped 0 k)) zeroth (subst (λ i. IsEnabled (state d) (Bumped i n)) bump.0 bump.1) in
       keeps_goes r e (after_step (state d) (Bumped 0 0)) seems
-      (consistent_start w h p.lists p.seats (map updates_in p.fences) (map queued p.held) (state d) keeps.consistent (omega (arith, one)) enabled)
+      (consistent_start w h p.lists p.seats (map updates_in p.fences) (map queued p.held) (state d) keeps.consistent (omega (arith, one q n means)) enabled)
       (after ∙ ap (λ i. after_step (state d) (Bumped i n)) bump.0 ∙ ap (λ k. after_step (state d) (Bumped 0 k)) zeroth) plan
 
   -- the end of an operation's batch
   pub keeps_end : (r : Parts) (e : D) (q n : ℕ) (y : Held) → (IsEnabled (state d) (Bumped q n) ⊎ (Bumped q n ≡ Free)) → 0 < n → slice_get p.held 0 ≡ Some y →
-      r.lists ≡ p.lists → r.seats ≡ p.seats → map updates_in r.fences ≡ updated_by (signal_at n (queued y)) (map updates_in p.fences) →
+      r.lists ≡ p.lists → r.seats ≡ p.seats → r.numbers ≡ p.numbers → map updates_in r.fences ≡ updated_by (signal_at n (queued y)) (map updates_in p.fences) →
       map queued r.held ≡ changed_at (without (signal_at n (queued y))) 0 (map queued p.held) →
       state e ≡ after_step (state d) (Bumped q n) → plan_of e ≡ plan_of d → Keeps state plan_of w (h ++ event.Queue (record { 0 = q }) ∷ []) r e
-  keeps_end r e q n y means some at lists seats fences held after plan =
+  keeps_end r e q n y means some at lists seats numbers fences held after plan =
       let bump : (q ≡ 0) × IsEnabled (state d) (Bumped q n) = bump_queue q n means in
       let enabled : IsEnabled (state d) (Bumped 0 n) = subst (λ i. IsEnabled (state d) (Bumped i n)) bump.0 bump.1 in
       let k : List Event = h ++ event.Queue (record { 0 = q }) ∷ [] in
       let is : IsConsistent w k p.lists p.seats (updated_by (signal_at n (queued y)) (map updates_in p.fences)) (changed_at (without (signal_at n (queued y))) 0 (map queued p.held)) (after_step (state d) (Bumped 0 n)) =
-      consistent_end w h p.lists p.seats (map updates_in p.fences) (map queued p.held) (state d) (record { 0 = q }) n (queued y) keeps.consistent bump.0 (omega (arith, one)) some enabled
+      consistent_end w h p.lists p.seats (map updates_in p.fences) (map queued p.held) (state d) (record { 0 = q }) n (queued y) keeps.consistent bump.0 (omega (arith, one q n means)) some enabled
       (slice_get-map queued p.held 0 ∙ ap (option_map queued) at) in
       record {
         consistent =
@@ -140,26 +151,27 @@ module _ {D : Type 0} (state : D → VkState) (plan_of : D → Option DevicePlan
             (subst (λ x. IsConsistent w k r.lists x (updated_by (signal_at n (queued y)) (map updates_in p.fences)) (changed_at (without (signal_at n (queued y))) 0 (map queued p.held)) (after_step (state d) (Bumped 0 n))) (sym seats)
             (subst (λ x. IsConsistent w k x p.seats (updated_by (signal_at n (queued y)) (map updates_in p.fences)) (changed_at (without (signal_at n (queued y))) 0 (map queued p.held)) (after_step (state d) (Bumped 0 n))) (sym lists) is))));
         plan = plan ∙ keeps.plan;
+        numbers = subst (AreNumbers w.resources) (sym numbers) keeps.numbers;
       }
 
-  -- the queue's place, by either reading
-  pub same_held : (q n : ℕ) (y z : Held) → (IsEnabled (state d) (Bumped q n) ⊎ (Bumped q n ≡ Free)) → y ≡ get_or p.held q y → slice_get p.held 0 ≡ Some z → y ≡ z
-  same_held q n y z means at first =
+  -- there is room for the signal of the operation whose batch ends
+  pub room_end : (q n : ℕ) (y : Held) (fences : List (Roomy ℕ)) → (IsEnabled (state d) (Bumped q n) ⊎ (Bumped q n ≡ Free)) → y ≡ get_or p.held q y →
+      IfSome (slice_get p.held 0) (λ x. HasRoomFor (first_signal (queued x)) fences) → HasRoomFor (signal_at n (queued y)) fences
+  room_end q n y fences means at room =
       let bump : (q ≡ 0) × IsEnabled (state d) (Bumped q n) = bump_queue q n means in
-      let found : slice_get p.held 0 ≡ Some y = held_at state plan_of w h p d keeps 0 y (omega (arith, one)) (subst (λ i. y ≡ get_or p.held i y) bump.0 at) in
-      let both : Some y ≡ Some z = sym found ∙ first in
-      grind arith
+      let found : slice_get p.held 0 ≡ Some y = held_at state plan_of w h p d keeps 0 y (omega (arith, one q n means)) (subst (λ i. y ≡ get_or p.held i y) bump.0 at) in
+      room_numbered n (first_signal (queued y)) fences (subst (λ o. IfSome o (λ x. HasRoomFor (first_signal (queued x)) fences)) found room)
 
   -- the end of an operation's batch, as the step's parts give it
   pub keeps_end_by : (fences : List (Roomy ℕ)) (e : D) (q n : ℕ) (y z : Held) (o : Option Signalled) → (IsEnabled (state d) (Bumped q n) ⊎ (Bumped q n ≡ Free)) → (n ≡ 0 → ⊥) → y ≡ get_or p.held q y →
       o ≡ signal_at n (queued y) → queued z ≡ without o (queued y) → map updates_in fences ≡ updated_by o (map updates_in p.fences) →
       state e ≡ after_step (state d) (Bumped q n) → plan_of e ≡ plan_of d →
-      Keeps state plan_of w (h ++ event.Queue (record { 0 = q }) ∷ []) (record { lists = p.lists; seats = p.seats; fences = fences; held = slice_set p.held q z }) e
+      Keeps state plan_of w (h ++ event.Queue (record { 0 = q }) ∷ []) (record { lists = p.lists; seats = p.seats; fences = fences; held = slice_set p.held q z; numbers = p.numbers }) e
   keeps_end_by fences e q n y z o means later at signal rest updates after plan =
       let bump : (q ≡ 0) × IsEnabled (state d) (Bumped q n) = bump_queue q n means in
       let first : y ≡ get_or p.held 0 y = subst (λ i. y ≡ get_or p.held i y) bump.0 at in
-      let found : slice_get p.held 0 ≡ Some y = held_at state plan_of w h p d keeps 0 y (omega (arith, one)) first in
-      keeps_end (record { lists = p.lists; seats = p.seats; fences = fences; held = slice_set p.held q z }) e q n y means (by_cases n later) found refl refl
+      let found : slice_get p.held 0 ≡ Some y = held_at state plan_of w h p d keeps 0 y (omega (arith, one q n means)) first in
+      keeps_end (record { lists = p.lists; seats = p.seats; fences = fences; held = slice_set p.held q z; numbers = p.numbers }) e q n y means (by_cases n later) found refl refl refl
       (updates ∙ ap (λ x. updated_by x (map updates_in p.fences)) signal)
-      (ap (λ i. map queued (slice_set p.held i z)) bump.0 ∙ map_write queued (without (signal_at n (queued y))) p.held 0 y z held_some first (rest ∙ ap (λ x. without x (queued y)) signal))
+      (ap (λ i. map queued (slice_set p.held i z)) bump.0 ∙ map_write queued (without (signal_at n (queued y))) p.held 0 y z (held_some q n means) first (rest ∙ ap (λ x. without x (queued y)) signal))
       after plan

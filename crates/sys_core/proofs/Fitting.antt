@@ -1,5 +1,5 @@
 -- Batches of good operations name objects of the device, and their numbers are small.
-use Rattle.std.proofs.Common.{ℕ, suc, ◌≡◌, ◌<◌, ◌≤◌, ◌+◌, ◌*◌, ◌/◌, ◌^◌, ap, refl, arith, List, [], ◌∷◌, length, Some, None, Option, Bool, true, false}
+use Rattle.std.proofs.Common.{ℕ, ◌≡◌, ◌<◌, ◌≤◌, ◌+◌, ◌*◌, ◌/◌, ◌^◌, ap, refl, arith, List, [], ◌∷◌, length, Some, None, Option, Bool, true, false}
 use Rattle.std.proofs.lemmas.Bool.{leb-true, lt-ltb}
 use Rattle.std.proofs.lemmas.Option.{slice_get_within}
 use Rattle.std.specs.List.{list_all}
@@ -14,14 +14,14 @@ use Rattle.d3d_machine.specs.declared.calls.Record.TheVariants.{Copy}
 use Rattle.d3d_machine.specs.declared.events.Command.{Command}
 use Rattle.d3d_machine.specs.declared.events.Operation.{Operation}
 use Rattle.d3d_machine.specs.declared.events.Operation.TheVariants.{Execute, Signal}
-use Rattle.d3d_machine.specs.World.{IsWorld, resource_of, words_of_resource, words_in, is_small_resource, is_whole, is_inside, overlaps}
+use Rattle.d3d_machine.specs.World.{IsWorld, resource_of, words_of_resource, words_in, is_small_resource, is_whole, is_inside, overlaps, is_named_record}
 use Rattle.d3d_machine.specs.Replies.{is_copy}
 use Rattle.d3d_machine.specs.Good.{is_good_record, is_good_command, is_good_operation}
 use Rattle.d3d_machine.proofs.Named.{all_at}
 use Rattle.vk_port.specs.Journal.{command_fits, pairs_fit, fits_plan}
-use Rattle.sys_core.specs.Lowering.{plan_buffers, plan_of_world, own_wait, lower_record, lower_commands, lowered_commands, trailing}
-use Rattle.sys_core.specs.Batches.{batch_by, waits_by, is_small_record, is_small_operation}
-use Rattle.sys_core.proofs.Buffers.{lives_at}
+use Rattle.sys_core.specs.Lowering.{plan_buffers, plan_number, plan_of_world, own_wait, lower_record, lower_commands, lowered_commands, trailing}
+use Rattle.sys_core.specs.Batches.{batch_by, waits_by, is_small_record, is_numbered_record, is_numbered_operation}
+use Rattle.sys_core.proofs.Spread.{lives_at, number_within}
 
 few_words : (w : World) (b : ℕ) → IsWorld w → words_in w b ≤ 262144
 few_words w b world = by_resource (resource_of w b) refl
@@ -39,18 +39,18 @@ few_words w b world = by_resource (resource_of w b) refl
         omega (arith, e, small r (all_at is_small_resource w.resources b (Some r) world.sizes (lives_at w b r is)))
 
 -- the parts of a good copy
-record IsGoodCopy (w : World) (d doff s soff bytes : ℕ) : Type 0 where
-  to_lives : is_some (resource_of w d) ≡ true
-  from_lives : is_some (resource_of w s) ≡ true
-  to_end : doff + bytes ≤ 4 * words_in w d
-  from_end : soff + bytes ≤ 4 * words_in w s
+pub record IsGoodCopy (w : World) (d doff s soff bytes : ℕ) : Type 0 where
+  pub to_lives : is_some (resource_of w d) ≡ true
+  pub from_lives : is_some (resource_of w s) ≡ true
+  pub to_end : doff + bytes ≤ 4 * words_in w d
+  pub from_end : soff + bytes ≤ 4 * words_in w s
 
 ends_inside : (words offset bytes : ℕ) → is_inside words offset bytes ≡ true → offset + bytes ≤ 4 * words
 ends_inside words offset bytes h =
     leb-true (offset + bytes) (4 * words)
     (and_both (is_whole bytes) (nat_le (offset + bytes) (4 * words)) (and_both (is_whole offset) (is_whole bytes && nat_le (offset + bytes) (4 * words)) h).1).1
 
-good_copy : (w : World) (d doff s soff bytes : ℕ) → is_copy w d doff s soff bytes ≡ true → IsGoodCopy w d doff s soff bytes
+pub good_copy : (w : World) (d doff s soff bytes : ℕ) → is_copy w d doff s soff bytes ≡ true → IsGoodCopy w d doff s soff bytes
 good_copy w d doff s soff bytes good =
     let apart : Bool = not ((d == s) && overlaps doff soff bytes) in
     let from : Bool = is_inside (words_in w s) soff bytes in
@@ -77,45 +77,52 @@ small_record w (Copy d doff s soff bytes) world good =
     (and_of (nat_lt (soff / 4) (2 ^ 32)) (nat_lt (bytes / 4) (2 ^ 32)) (lt-ltb (soff / 4) (2 ^ 32) (omega (arith, is.from_end, from)))
     (lt-ltb (bytes / 4) (2 ^ 32) (omega (arith, is.to_end, to))))
 
-small_commands : (w : World) (cs : List Command) → IsWorld w → list_all (is_good_command w) cs ≡ true → list_all (λ c. is_small_record c.what) cs ≡ true
-small_commands w [] world good = refl
-small_commands w (c ∷ cs) world good =
-    let both : (is_good_command w c ≡ true) × (list_all (is_good_command w) cs ≡ true) = and_both (is_good_command w c) (list_all (is_good_command w) cs) good in
-    and_of (is_small_record c.what) (list_all (λ x. is_small_record x.what) cs) (small_record w c.what world both.0) (small_commands w cs world both.1)
-
--- the numbers of a good operation are small
-pub small_operation : (w : World) (o : Operation) → IsWorld w → is_good_operation w o ≡ true → is_small_operation o ≡ true
-small_operation w (Execute cs) world good = small_commands w cs world good
-small_operation w (Signal f v) world good = refl
-
-planned_length : (rs : List (Option Resource)) → list_all (λ o. is_some o) rs ≡ true → length (plan_buffers rs) ≡ length rs
-planned_length [] live = refl
-planned_length (None ∷ rs) live = absurd (cc)
-planned_length (Some (Buffer h n) ∷ rs) live = ap suc (planned_length rs live)
-
-in_plan : (w : World) (b : ℕ) → IsWorld w → is_some (resource_of w b) ≡ true → nat_lt b (length (plan_buffers w.resources)) ≡ true
-in_plan w b world lives = by_resource (resource_of w b) refl lives
+-- a live resource is one of the world, and its number is one of the plan
+lives_within : (w : World) (b : ℕ) → is_some (resource_of w b) ≡ true →
+    (nat_lt b (length w.resources) ≡ true) × (nat_lt (plan_number w b) (length (plan_buffers w.resources)) ≡ true)
+lives_within w b lives = by_resource (resource_of w b) refl lives
   where
-    by_resource : (o : Option Resource) → resource_of w b ≡ o → is_some o ≡ true → nat_lt b (length (plan_buffers w.resources)) ≡ true
+    by_resource : (o : Option Resource) → resource_of w b ≡ o → is_some o ≡ true →
+        (nat_lt b (length w.resources) ≡ true) × (nat_lt (plan_number w b) (length (plan_buffers w.resources)) ≡ true)
     by_resource None is h = absurd (cc)
-    by_resource (Some r) is h =
-        lt-ltb b (length (plan_buffers w.resources))
-        (omega (arith, planned_length w.resources world.live, slice_get_within w.resources b (Some r) (lives_at w b r is)))
+    by_resource (Some r) is h = (
+      lt-ltb b (length w.resources) (slice_get_within w.resources b (Some r) (lives_at w b r is)),
+      lt-ltb (plan_number w b) (length (plan_buffers w.resources)) (number_within w.resources b r (lives_at w b r is)),
+    )
 
-record_fits : (w : World) (r : Record) → IsWorld w → is_good_record w r ≡ true → command_fits (plan_of_world w) (lower_record r) ≡ true
-record_fits w (Copy d doff s soff bytes) world good =
+named_record : (w : World) (r : Record) → is_good_record w r ≡ true → is_named_record w r ≡ true
+named_record w (Copy d doff s soff bytes) good =
     let is : IsGoodCopy w d.0 doff s.0 soff bytes = good_copy w d.0 doff s.0 soff bytes good in
-    and_of (nat_lt d.0 (length (plan_buffers w.resources))) (nat_lt s.0 (length (plan_buffers w.resources))) (in_plan w d.0 world is.to_lives) (in_plan w s.0 world is.from_lives)
+    and_of (nat_lt d.0 (length w.resources)) (nat_lt s.0 (length w.resources)) (lives_within w d.0 is.to_lives).0 (lives_within w s.0 is.from_lives).0
 
-commands_fit : (w : World) (cs : List Command) → IsWorld w → list_all (is_good_command w) cs ≡ true → list_all (command_fits (plan_of_world w)) (lower_commands cs) ≡ true
-commands_fit w [] world good = refl
-commands_fit w (c ∷ cs) world good =
+numbered_commands : (w : World) (cs : List Command) → IsWorld w → list_all (is_good_command w) cs ≡ true → list_all (λ c. is_numbered_record w c.what) cs ≡ true
+numbered_commands w [] world good = refl
+numbered_commands w (c ∷ cs) world good =
     let both : (is_good_command w c ≡ true) × (list_all (is_good_command w) cs ≡ true) = and_both (is_good_command w c) (list_all (is_good_command w) cs) good in
-    and_of (command_fits (plan_of_world w) (lower_record c.what)) (list_all (command_fits (plan_of_world w)) (lower_commands cs)) (record_fits w c.what world both.0) (commands_fit w cs world both.1)
+    and_of (is_numbered_record w c.what) (list_all (λ x. is_numbered_record w x.what) cs)
+    (and_of (is_named_record w c.what) (is_small_record c.what) (named_record w c.what both.0) (small_record w c.what world both.0))
+    (numbered_commands w cs world both.1)
 
-operation_fits : (w : World) (o : Operation) → IsWorld w → is_good_operation w o ≡ true → list_all (command_fits (plan_of_world w)) (lowered_commands o) ≡ true
-operation_fits w (Execute cs) world good = all_append (command_fits (plan_of_world w)) (lower_commands cs) (trailing ∷ []) (commands_fit w cs world good) refl
-operation_fits w (Signal f v) world good = refl
+-- a good operation has its numbers
+pub numbered_operation : (w : World) (o : Operation) → IsWorld w → is_good_operation w o ≡ true → is_numbered_operation w o ≡ true
+numbered_operation w (Execute cs) world good = numbered_commands w cs world good
+numbered_operation w (Signal f v) world good = refl
+
+record_fits : (w : World) (r : Record) → is_good_record w r ≡ true → command_fits (plan_of_world w) (lower_record w r) ≡ true
+record_fits w (Copy d doff s soff bytes) good =
+    let is : IsGoodCopy w d.0 doff s.0 soff bytes = good_copy w d.0 doff s.0 soff bytes good in
+    and_of (nat_lt (plan_number w d.0) (length (plan_buffers w.resources))) (nat_lt (plan_number w s.0) (length (plan_buffers w.resources)))
+    (lives_within w d.0 is.to_lives).1 (lives_within w s.0 is.from_lives).1
+
+commands_fit : (w : World) (cs : List Command) → list_all (is_good_command w) cs ≡ true → list_all (command_fits (plan_of_world w)) (lower_commands w cs) ≡ true
+commands_fit w [] good = refl
+commands_fit w (c ∷ cs) good =
+    let both : (is_good_command w c ≡ true) × (list_all (is_good_command w) cs ≡ true) = and_both (is_good_command w c) (list_all (is_good_command w) cs) good in
+    and_of (command_fits (plan_of_world w) (lower_record w c.what)) (list_all (command_fits (plan_of_world w)) (lower_commands w cs)) (record_fits w c.what both.0) (commands_fit w cs both.1)
+
+operation_fits : (w : World) (o : Operation) → is_good_operation w o ≡ true → list_all (command_fits (plan_of_world w)) (lowered_commands w o) ≡ true
+operation_fits w (Execute cs) good = all_append (command_fits (plan_of_world w)) (lower_commands w cs) (trailing ∷ []) (commands_fit w cs good) refl
+operation_fits w (Signal f v) good = refl
 
 timeline_fits : (w : World) (q : ℕ) → q ≤ length w.queues → nat_lt q (length w.queues + 1) ≡ true
 timeline_fits w q within = lt-ltb q (length w.queues + 1) (omega arith)
@@ -133,12 +140,12 @@ waits_fit w q last (Execute cs) within =
 waits_fit w q last (Signal f v) within = refl
 
 -- the batch of a good operation names objects of the device
-pub batch_fits : (w : World) (q n last : ℕ) (o : Operation) → IsWorld w → q < length w.queues → is_good_operation w o ≡ true →
+pub batch_fits : (w : World) (q n last : ℕ) (o : Operation) → q < length w.queues → is_good_operation w o ≡ true →
     fits_plan (plan_of_world w) (batch_by w q n last o) ≡ true
-batch_fits w q n last o world within good =
+batch_fits w q n last o within good =
     let waits : Bool = pairs_fit (plan_of_world w) (waits_by (length w.queues) q last o) in
     let sets : Bool = pairs_fit (plan_of_world w) ((q, n) ∷ []) in
-    let commands : Bool = list_all (command_fits (plan_of_world w)) (lowered_commands o) in
+    let commands : Bool = list_all (command_fits (plan_of_world w)) (lowered_commands w o) in
     and_of (nat_lt q (length w.queues)) (waits && (sets && commands)) (lt-ltb q (length w.queues) within)
     (and_of waits (sets && commands) (waits_fit w q last o within)
-    (and_of sets commands (and_of (nat_lt q (length w.queues + 1)) true (timeline_fits w q (omega arith)) refl) (operation_fits w o world good)))
+    (and_of sets commands (and_of (nat_lt q (length w.queues + 1)) true (timeline_fits w q (omega arith)) refl) (operation_fits w o good)))

@@ -25,6 +25,7 @@ use Rattle.sys_core.specs.declared.parts.Parts.{Parts}
 use Rattle.sys_core.specs.Parts.{Queued, queued, updates_in, is_met_by, reply_by, lists_by, held_by, fences_by, device_by, seat_after, woken_seat}
 use Rattle.sys_core.specs.Steps.{is_ready_thread, is_ready_place}
 use Rattle.sys_core.specs.Consistent.{place_from, is_behind, waiting_from, is_armed_met, IsConsistent, AreFences}
+use Rattle.sys_core.specs.Lowering.{AreNumbers}
 use Rattle.sys_core.specs.Serving.{Serves, StaysParts}
 use Rattle.sys_core.specs.Keeps.{Keeps, ready_by}
 use Rattle.sys_core.proofs.Calling.{changed_ext, consistent_call, consistent_awake}
@@ -69,6 +70,7 @@ keeps_same state plan_of w h p r d e keeps stays device plan = record {
       (subst (λ x. IsConsistent w h r.lists x (map updates_in p.fences) (map queued p.held) (state d)) (sym stays.seats)
       (subst (λ x. IsConsistent w h x p.seats (map updates_in p.fences) (map queued p.held) (state d)) (sym stays.lists) keeps.consistent))));
   plan = plan ∙ keeps.plan;
+  numbers = subst (AreNumbers w.resources) (sym stays.numbers) keeps.numbers;
 }
 
 -- only a wait looks at the fences, and it leaves them
@@ -88,9 +90,9 @@ seat_unmoved (call.Read b o n) fences s = refl
 pub keeps_call : {D : Type 0} (state : D → VkState) (plan_of : D → Option DevicePlan) (w : World) (h : List Event) (p r x : Parts) (d e : D) (t : ThreadId) (c : Call) (s : Seat) →
     Keeps state plan_of w h p d → slice_get p.seats t.0 ≡ Some s → s.waits ≡ None → slice_get (script_of w t.0) s.made ≡ Some c →
     Serves w c p r → state e ≡ device_by w p.lists (state d) c → plan_of e ≡ plan_of d →
-    x.lists ≡ r.lists → x.fences ≡ r.fences → x.held ≡ r.held → x.seats ≡ changed_at (seat_after (map updates_in r.fences) c) t.0 r.seats →
+    x.lists ≡ r.lists → x.fences ≡ r.fences → x.held ≡ r.held → x.numbers ≡ r.numbers → x.seats ≡ changed_at (seat_after (map updates_in r.fences) c) t.0 r.seats →
     Keeps state plan_of w (h ++ event.Call t c (reply_by w p.lists (map updates_in p.fences) (state d) c) ∷ []) x e
-keeps_call state plan_of w h p r x d e t c s keeps at waits next serves device plan lists fences held seats =
+keeps_call state plan_of w h p r x d e t c s keeps at waits next serves device plan lists fences held numbers seats =
     let us : List (List ℕ) = map updates_in p.fences in
     let place : place_of (state_after w h).desk t.0 ≡ place_from w h s = place_is w h p (state d) t.0 s keeps.consistent at in
     let k : List Event = h ++ event.Call t c (reply_by w p.lists us (state d) c) ∷ [] in
@@ -112,14 +114,15 @@ keeps_call state plan_of w h p r x d e t c s keeps at waits next serves device p
           (subst (λ y. IsConsistent w k y (changed_at (seat_after us c) t.0 p.seats) (fences_by c us) qs v)
           (sym (lists ∙ serves.lists)) is))));
       plan = plan ∙ keeps.plan;
+      numbers = subst (AreNumbers w.resources) (sym (numbers ∙ serves.numbers)) keeps.numbers;
     }
 
 -- a thread woke
 pub keeps_awake : {D : Type 0} (state : D → VkState) (plan_of : D → Option DevicePlan) (w : World) (h : List Event) (p x : Parts) (d : D) (t : ThreadId) (s : Seat) (a : Armed) →
     Keeps state plan_of w h p d → slice_get p.seats t.0 ≡ Some s → s.waits ≡ Some a → is_ready_thread w h t.0 ≡ true →
-    x.lists ≡ p.lists → x.fences ≡ p.fences → x.held ≡ p.held → x.seats ≡ changed_at woken_seat t.0 p.seats →
+    x.lists ≡ p.lists → x.fences ≡ p.fences → x.held ≡ p.held → x.numbers ≡ p.numbers → x.seats ≡ changed_at woken_seat t.0 p.seats →
     Keeps state plan_of w (h ++ event.Awake t ∷ []) x d
-keeps_awake state plan_of w h p x d t s a keeps at waits ready lists fences held seats =
+keeps_awake state plan_of w h p x d t s a keeps at waits ready lists fences held numbers seats =
     let place : place_of (state_after w h).desk t.0 ≡ place_from w h s = place_is w h p (state d) t.0 s keeps.consistent at in
     let k : List Event = h ++ event.Awake t ∷ [] in
     let waiting : (place_of (state_after w h).desk t.0).waits ≡ Some (waiting_from w h a) = ap (λ (y : Place). y.waits) place ∙ ap (option_map (waiting_from w h)) waits in
@@ -134,4 +137,5 @@ keeps_awake state plan_of w h p x d t s a keeps at waits ready lists fences held
           (subst (λ y. IsConsistent w k x.lists y (map updates_in p.fences) (map queued p.held) (state d)) (sym seats)
           (subst (λ y. IsConsistent w k y (changed_at woken_seat t.0 p.seats) (map updates_in p.fences) (map queued p.held) (state d)) (sym lists) is)));
       plan = keeps.plan;
+      numbers = subst (AreNumbers w.resources) (sym numbers) keeps.numbers;
     }

@@ -3,6 +3,9 @@ pub mod Holding
 pub mod Seating
 pub mod Lowered
 pub mod Updates
+pub mod Spread
+pub mod Numbers
+pub mod Startup
 pub mod Inside
 pub mod Serving
 pub mod Buffers
@@ -14,6 +17,10 @@ pub mod Work
 pub mod Opening
 pub mod Keeping
 pub mod Undone
+pub mod Effect
+pub mod InOrder
+pub mod Runnable
+pub mod Orderly
 pub mod Ahead
 pub mod AheadSteps
 pub mod NoQueue
@@ -22,14 +29,9 @@ pub mod Threading
 pub mod Waiting
 pub mod Progress
 pub mod WorkerStep
-pub mod FormRuns
-pub mod Rounds
-pub mod RoundsRise
-pub mod Forms
 pub mod DeviceStep
 pub mod Beginning
-pub mod FirstStep
+pub mod NthStep
+pub mod Finishing
 pub mod Stepping
 pub mod Values
-pub mod TooLong
-pub mod Ending

@@ -34,7 +34,7 @@ operations_first w s q k (e ∷ h) more o is =
 pub record IsBatch (w : World) (h : List Event) (b : Batch) (o : Operation) : Type 0 where
   pub called : slice_get (operations w h b.queue) (b.number - 1) ≡ Some o
   pub sets : b.sets ≡ (b.queue, b.number) ∷ []
-  pub commands : b.commands ≡ lowered_commands o
+  pub commands : b.commands ≡ lowered_commands w o
 
 pub lowered_member : (w : World) (h : List Event) (least : ℕ) (earlier bs : List Batch) (k : ℕ) (b : Batch) → AreLowered w h least earlier bs →
     slice_get bs k ≡ Some b → (o : Operation) × IsBatch w h b o

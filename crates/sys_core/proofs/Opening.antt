@@ -1,5 +1,6 @@
 -- The system is consistent before any call, when the start-up batch is submitted.
-use Rattle.std.proofs.Common.{ℕ, zero, suc, ◌≡◌, ◌<◌, ◌+◌, ◌-◌, ◌∙◌, sym, ap, subst, refl, arith, List, [], ◌∷◌, length, map, Some, None, Option, true, get_or, replicate}
+use Rattle.std.proofs.Common.{ℕ, zero, suc, ◌≡◌, ◌<◌, ◌+◌, ◌-◌, ◌∙◌, sym, ap, subst, refl, arith, List, [], ◌∷◌, length, map, Some, None, Option, true, get_or, replicate, ◌++◌, ◌≤◌, inl, inr}
+use Rattle.std.proofs.lemmas.Bool.{cases_lt}
 use Rattle.std.proofs.lemmas.List.{length-map, length-replicate}
 use Rattle.std.proofs.lemmas.Option.{slice_get_within, slice_get-map, slice_get-get_or}
 use Rattle.std.specs.List.{slice_get, list_all}
@@ -17,13 +18,16 @@ use Rattle.vk_port.specs.VkState.{VkState, lane_of, no_lane, first_state as firs
 use Rattle.vk_port.specs.After.{after_submit, lane_after_submit}
 use Rattle.vk_port.proofs.Valid.{first_valid, submit_valid}
 use Rattle.vk_port.proofs.Matching.{first_matches, submit_matches}
-use Rattle.sys_core.specs.Lowering.{plan_of_world, startup}
+use Rattle.sys_core.specs.Lowering.{plan_of_world, startup, opening_batches}
+use Rattle.sys_core.specs.Opened.{opened}
 use Rattle.sys_core.specs.Parts.{Queued, no_queue, opening_seat}
+use Rattle.sys_core.specs.Steps.{after_submits}
 use Rattle.sys_core.specs.Consistent.{AreFences, IsHeld, AreHeld, IsDevice, IsConsistent, place_from, is_behind, finished_of}
+use Rattle.sys_core.proofs.Startup.{opening_is, opening_none, one_queue}
 
 -- the device when the start-up batch is submitted
-abbrev pub opened : World → VkState
-opened w = after_submit (first_device (plan_of_world w)) (startup w)
+abbrev begun : World → VkState
+begun w = after_submit (first_device (plan_of_world w)) (startup w)
 
 seats_open : (w : World) (scripts : List (List Call)) → map (λ _. opening_place) scripts ≡ map (place_from w []) (map (λ _. opening_seat) scripts)
 seats_open w [] = refl
@@ -47,26 +51,52 @@ zero_at zero q = refl
 zero_at (suc n) zero = refl
 zero_at (suc n) (suc q) = zero_at n q
 
-device_open : (w : World) → IsWorld w → IsDevice w [] (opened w)
-device_open w world =
+device_with : (w : World) → length w.queues ≡ 1 → IsDevice w [] (begun w)
+device_with w single =
     let plan : DevicePlan = plan_of_world w in
-    let lanes : 0 < length (first_device plan).lanes = omega (arith, length-replicate (length w.queues) no_lane, world.one_queue) in
-    let lane : lane_of (opened w) 0 ≡ lane_after_submit (startup w) no_lane =
-    ap (λ k. get_or (changed_at (lane_after_submit (startup w)) 0 (replicate k no_lane)) 0 no_lane) world.one_queue in
+    let lanes : 0 < length (first_device plan).lanes = omega (arith, length-replicate (length w.queues) no_lane, single) in
+    let lane : lane_of (begun w) 0 ≡ lane_after_submit (startup w) no_lane =
+    ap (λ k. get_or (changed_at (lane_after_submit (startup w)) 0 (replicate k no_lane)) 0 no_lane) single in
     record {
       valid = submit_valid (first_device plan) (startup w) lanes refl (first_valid plan);
       objects = submit_matches plan (first_device plan) (startup w) (first_matches plan);
       stands = record {
         rest = [];
-        begins = refl;
+        begins = ap (λ bs. bs ++ []) (sym (opening_is w (omega (arith, single))));
         lowered_rest = tt;
         queues = λ q within. record { numbered = refl; of_called = omega arith; counter_is = zero_at (length w.queues + 1) q; done = omega arith };
       };
-      named = ap (λ n. nat_lt 0 n && true) world.one_queue;
-      finished = λ q within. subst (λ k. 0 ≡ (first_number k + finished_of (opened w) k) - 1) (let zeroth : 0 ≡ q = omega (arith, within, world.one_queue) in zeroth)
-          (let one : length (lane_of (opened w) 0).batches ≡ 1 = ap (λ (l : Lane). length l.batches) lane in omega (arith, one));
-      opening = λ some. let one : length (lane_of (opened w) 0).batches ≡ 1 = ap (λ (l : Lane). length l.batches) lane in absurd (omega (arith, some, one));
+      named = ap (λ n. nat_lt 0 n && true) single;
+      finished = λ q within. subst (λ k. 0 ≡ (first_number k + finished_of (begun w) k) - 1) (let zeroth : 0 ≡ q = omega (arith, within, single) in zeroth)
+          (let one : length (lane_of (begun w) 0).batches ≡ 1 = ap (λ (l : Lane). length l.batches) lane in omega (arith, one));
+      opening = λ some. let one : length (lane_of (begun w) 0).batches ≡ 1 = ap (λ (l : Lane). length l.batches) lane in absurd (omega (arith, some, one));
     }
+
+device_without : (w : World) → length w.queues ≤ 0 → IsDevice w [] (first_device (plan_of_world w))
+device_without w none = record {
+  valid = first_valid (plan_of_world w);
+  objects = first_matches (plan_of_world w);
+  stands = record {
+    rest = [];
+    begins = ap (λ bs. bs ++ []) (sym (opening_none w none));
+    lowered_rest = tt;
+    queues = λ q within. absurd (omega (arith, within, none));
+  };
+  named = refl;
+  finished = λ q within. absurd (omega (arith, within, none));
+  opening = λ some. absurd (omega (arith, some));
+}
+
+-- with a queue or without
+opens : (P : VkState → Type 0) (w : World) → (0 < length w.queues → P (begun w)) → (length w.queues ≤ 0 → P (first_device (plan_of_world w))) → P (opened w)
+opens P w some none =
+    elim (cases_lt 0 (length w.queues)) [
+      | inl within ↦ subst (λ bs. P (after_submits (first_device (plan_of_world w)) bs)) (sym (opening_is w within)) (some within)
+      | inr past ↦ subst (λ bs. P (after_submits (first_device (plan_of_world w)) bs)) (sym (opening_none w past)) (none past)
+    ]
+
+device_open : (w : World) → IsWorld w → IsDevice w [] (opened w)
+device_open w world = opens (λ v. IsDevice w [] v) w (λ some. device_with w (one_queue w world some)) (λ none. device_without w none)
 
 const_at : {A : Type 0} (xs : List A) (q : ℕ) (x : Queued) → slice_get (map (λ _. no_queue) xs) q ≡ Some x → no_queue ≡ x
 const_at [] q x is = absurd (cc)
@@ -77,10 +107,13 @@ held_open : (w : World) → IsWorld w → AreHeld w [] (opened w) (map (λ _. no
 held_open w world = record {
   count = length-map w.queues (λ _. no_queue);
   each = λ q x at.
-      let zeroth : 0 ≡ q = omega (arith, slice_get_within (map (λ _. no_queue) w.queues) q x at, length-map w.queues (λ _. no_queue), world.one_queue) in
+      let within : q < length w.queues = omega (arith, slice_get_within (map (λ _. no_queue) w.queues) q x at, length-map w.queues (λ _. no_queue)) in
+      let zeroth : 0 ≡ q = omega (arith, within, world.few_queues) in
       subst (λ y. IsHeld w [] (opened w) q y) (const_at w.queues q x at)
       (subst (λ k. IsHeld w [] (opened w) k no_queue) zeroth
-      (record { submitted_is = refl; within = omega arith; rest = refl; last_is = refl; pending = refl }));
+      (opens (λ v. IsHeld w [] v 0 no_queue) w
+      (λ some. record { submitted_is = refl; within = omega arith; rest = refl; last_is = refl; pending = refl })
+      (λ none. absurd (omega (arith, within, none)))));
 }
 
 -- before any call

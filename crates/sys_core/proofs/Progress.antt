@@ -1,5 +1,5 @@
 -- A thread that can go on has an enabled step, and so has the system while an operation is called and incomplete.
-use Rattle.std.proofs.Common.{ℕ, zero, suc, ◌≡◌, ◌<◌, ◌≤◌, ◌+◌, ◌-◌, ◌∙◌, sym, ap, refl, arith, List, [], ◌∷◌, ◌++◌, length, Some, Bool, true, length-append, length-drop, inl, inr}
+use Rattle.std.proofs.Common.{ℕ, zero, suc, ◌≡◌, ◌<◌, ◌≤◌, ◌+◌, ◌-◌, ◌∙◌, sym, ap, subst, refl, arith, List, [], ◌∷◌, ◌++◌, length, Some, Bool, true, length-append, length-drop, inl, inr}
 use Rattle.std.proofs.lemmas.Bool.{cases_lt, lt-ltb}
 use Rattle.std.proofs.lemmas.Bool.Decides.{eqb_tells}
 use Rattle.std.proofs.lemmas.List.{length-map}
@@ -27,14 +27,16 @@ use Rattle.vk_port.specs.VkState.{VkState, lane_of, no_lane, counter_of}
 use Rattle.vk_port.proofs.Lists.{item_at}
 use Rattle.vk_port.proofs.Progress.{lane_goes}
 use Rattle.sys_core.specs.Lowering.{startup}
-use Rattle.sys_core.specs.Steps.{is_ready_thread, is_ready_worker, submitted_of, steps_where, always, enabled_of}
+use Rattle.sys_core.specs.Steps.{is_ready_thread, is_ready_worker, submitted_of, steps_where, always, numbered, enabled_of}
 use Rattle.sys_core.specs.Consistent.{IsDevice, finished_of}
 use Rattle.sys_core.specs.Laws.{CanGoOn}
+use Rattle.sys_core.specs.Stands.{AreLowered}
 use Rattle.sys_core.proofs.Ahead.{called_now}
 use Rattle.sys_core.proofs.AheadSteps.{at_first}
 use Rattle.sys_core.proofs.Holding.{slice_get_drop}
 use Rattle.sys_core.proofs.Lowered.{of_queue_member, number_at}
 use Rattle.sys_core.proofs.Standing.{submitted_is}
+use Rattle.sys_core.proofs.Startup.{opening_is, begins_of, one_queue}
 use Rattle.sys_core.proofs.Waiting.{IsWaiting, waiting_member, waits_reached}
 
 -- the steps that pass a test are some, where one passes it
@@ -63,7 +65,7 @@ workers_of w h v = steps_where (is_ready_worker w h v) (λ q. step.Worker q) 0 (
 
 -- the steps of the device
 abbrev devices_of : VkState → ℕ → List Step
-devices_of v free = steps_where always (λ k. step.Device k) 0 (steps_offered v free)
+devices_of v free = steps_where always (λ k. step.Device k) 0 (numbered (steps_offered v free))
 
 parts_of : (w : World) (h : List Event) (v : VkState) (free : ℕ) →
     length (enabled_of w h v free) ≡ length (threads_of w h) + (length (workers_of w h v) + length (devices_of v free))
@@ -91,7 +93,7 @@ worker_goes w h v free q within less =
 pub device_goes : (w : World) (h : List Event) (v : VkState) (free : ℕ) → 0 < length (enabled_steps v) → 0 < length (enabled_of w h v free)
 device_goes w h v free less =
     let some : 0 < length (devices_of v free) =
-    where_some always (λ k. step.Device k) 0 (steps_offered v free) 0 (omega arith) (omega (arith, less)) refl in
+    where_some always (λ k. step.Device k) 0 (numbered (steps_offered v free)) 0 (omega arith) (omega (arith, less)) refl in
     omega (arith, some, parts_of w h v free)
 
 -- the first unfinished batch of the one queue
@@ -114,14 +116,13 @@ head_is v r valid front =
     }
 
 -- its waits are reached
-head_reached : (w : World) (h : List Event) (v : VkState) (r : Running) → IsWorld w → IsDevice w h v → IsHead v r → reached v.timelines r.batch.waits ≡ true
-head_reached w h v r world device head =
+head_reached : (w : World) (h : List Event) (v : VkState) (r : Running) → IsWorld w → IsDevice w h v → 0 < length w.queues → IsHead v r → reached v.timelines r.batch.waits ≡ true
+head_reached w h v r world device within head =
     let ts : List ℕ = v.timelines in
     let rest : List Batch = device.stands.rest in
-    let begins : v.journal ≡ startup w ∷ rest = device.stands.begins in
+    let begins : v.journal ≡ startup w ∷ rest = begins_of w h v device.stands within in
     let queue : of_queue 0 v.journal ≡ startup w ∷ of_queue 0 rest = ap (of_queue 0) begins in
     let n : ℕ = finished_of v 0 in
-    let within : 0 < length w.queues = omega (arith, world.one_queue) in
     elim (cases_lt 0 n) [
       | inl some ↦
           let n_is : n ≡ suc (n - 1) = omega (arith, some) in
@@ -132,7 +133,8 @@ head_reached w h v r world device head =
           let named : (p (startup w) ≡ true) × (list_all p rest ≡ true) =
           and_both (p (startup w)) (list_all p rest) (ap (list_all p) (sym begins) ∙ device.named) in
           let waiting : IsWaiting w r.batch =
-          waiting_member w h 0 (startup w ∷ []) rest member.0 r.batch world.one_queue device.stands.lowered_rest (and_of (p (startup w)) true named.0 refl) named.1 member.1 member.2 in
+          waiting_member w h 0 (startup w ∷ []) rest member.0 r.batch (one_queue w world within)
+          (subst (λ bs. AreLowered w h 0 bs rest) (opening_is w within) device.stands.lowered_rest) (and_of (p (startup w)) true named.0 refl) named.1 member.1 member.2 in
           let counter_is : counter_of v 0 ≡ counter h 0 = (device.stands.queues 0 within).counter_is in
           let finished : counter h 0 ≡ (0 + n) - 1 = device.finished 0 within in
           ap (reached ts) waiting.waits
@@ -146,31 +148,30 @@ head_reached w h v r world device head =
     ]
 
 -- a device to which all called operations are submitted, of which one is incomplete, has a step
-pub submitted_go : (w : World) (h : List Event) (v : VkState) → IsWorld w → IsDevice w h v → counter h 0 < length (operations w h 0) →
+pub submitted_go : (w : World) (h : List Event) (v : VkState) → IsWorld w → IsDevice w h v → 0 < length w.queues → counter h 0 < length (operations w h 0) →
     length (operations w h 0) ≤ submitted_of v 0 → 0 < length (enabled_steps v)
-submitted_go w h v world device less all =
+submitted_go w h v world device within less all =
     let rest : List Batch = device.stands.rest in
-    let within : 0 < length w.queues = omega (arith, world.one_queue) in
+    let begins : v.journal ≡ startup w ∷ rest = begins_of w h v device.stands within in
     let lanes : 0 < length v.lanes = omega (arith, within, device.objects.lanes) in
     let rs : List Running = (lane_of v 0).batches in
-    let count : submitted_of v 0 ≡ length (of_queue 0 rest) = submitted_is w v rest 0 device.stands.begins (device.stands.queues 0 within).numbered in
-    let long : length (of_queue 0 v.journal) ≡ suc (length (of_queue 0 rest)) = ap (λ bs. length (of_queue 0 bs)) device.stands.begins in
+    let count : submitted_of v 0 ≡ length (of_queue 0 rest) = submitted_is w v rest 0 begins (device.stands.queues 0 within).numbered in
+    let long : length (of_queue 0 v.journal) ≡ suc (length (of_queue 0 rest)) = ap (λ bs. length (of_queue 0 bs)) begins in
     let finished : counter h 0 ≡ (0 + finished_of v 0) - 1 = device.finished 0 within in
     let some : 0 < length rs = omega (arith, count, long, finished, less, all) in
     let first : (r : Running) × (slice_get rs 0 ≡ Some r) = item_at rs 0 some in
     lane_goes v 0 (lane_of v 0) first.0 (slice_get-get_or v.lanes 0 no_lane lanes) first.1
     (all_at is_marked rs 0 first.0 (device.valid.lanes 0).marked first.1)
-    (λ _. head_reached w h v first.0 world device (head_is v first.0 device.valid first.1))
+    (λ _. head_reached w h v first.0 world device within (head_is v first.0 device.valid first.1))
 
-first_goes : (w : World) (h : List Event) (v : VkState) (free : ℕ) → IsWorld w → IsRunButWords w h → IsDevice w h v → 0 < length (called_of (state_after w h).desk 0) →
+first_goes : (w : World) (h : List Event) (v : VkState) (free : ℕ) → IsWorld w → IsRunButWords w h → IsDevice w h v → 0 < length w.queues → 0 < length (called_of (state_after w h).desk 0) →
     0 < length (enabled_of w h v free)
-first_goes w h v free world run device some =
-    let within : 0 < length w.queues = omega (arith, world.one_queue) in
+first_goes w h v free world run device within some =
     let less : counter h 0 < length (operations w h 0) =
     omega (arith, some, ap length (called_now w h run within), length-drop (counter h 0) (operations w h 0)) in
     elim (cases_lt (submitted_of v 0) (length (operations w h 0))) [
       | inl more ↦ worker_goes w h v free 0 within more
-      | inr all ↦ device_goes w h v free (submitted_go w h v world device less all)
+      | inr all ↦ device_goes w h v free (submitted_go w h v world device within less all)
     ]
 
 -- while an operation is called and incomplete, a step is enabled
@@ -178,7 +179,7 @@ pub queue_goes : (w : World) (h : List Event) (v : VkState) (free q : ℕ) → I
     0 < length (called_of (state_after w h).desk q) → 0 < length (enabled_of w h v free)
 queue_goes w h v free q world run device within some =
     at_first (λ p. 0 < length (called_of (state_after w h).desk p) → 0 < length (enabled_of w h v free)) q (length w.queues) within
-    (omega (arith, world.one_queue)) (first_goes w h v free world run device) some
+    (omega (arith, within, world.few_queues)) (first_goes w h v free world run device (omega (arith, within))) some
 
 -- where the Direct3D machine can go on, the system has a step
 pub machine_goes : (w : World) (h : List Event) (v : VkState) (free : ℕ) → IsWorld w → IsRunButWords w h → IsDevice w h v → CanGoOn w h → 0 < length (enabled_of w h v free)

@@ -18,9 +18,10 @@ use Rattle.std.specs.List.{slice_index_or}
 use Rattle.std.proofs.lemmas.Option.{slice_get_within}
 use Rattle.vk_port.specs.VkState.{VkState, counter_of}
 use Rattle.vk_port.specs.After.{after_submit}
-use Rattle.sys_core.specs.Lowering.{startup, lowered}
+use Rattle.sys_core.specs.Lowering.{startup, opening_batches, lowered}
 use Rattle.sys_core.specs.Stands.{IsLowered, AreLowered, StandsAt, Stands}
 use Rattle.sys_core.specs.Steps.{submitted_of}
+use Rattle.sys_core.proofs.Startup.{begins_of}
 
 take_all : {A : Type 0} (xs : List A) → take (length xs) xs ≡ xs
 take_all [] = refl
@@ -127,7 +128,7 @@ pub stands_event : (w : World) (h : List Event) (e : Event) (v u : VkState) → 
 stands_event w h e v u s none journal timelines = record {
   rest = s.rest;
   begins = journal ∙ s.begins;
-  lowered_rest = lowered_on w h (e ∷ []) 0 (startup w ∷ []) s.rest s.lowered_rest;
+  lowered_rest = lowered_on w h (e ∷ []) 0 (opening_batches w) s.rest s.lowered_rest;
   queues = λ q within. let at : StandsAt w h s.rest v q = s.queues q within in record {
     numbered = at.numbered;
     of_called = omega (arith, at.of_called, operations_more w h e q);
@@ -174,11 +175,11 @@ pub stands_submit : (w : World) (h : List Event) (v : VkState) (q : ℕ) (o : Op
     slice_get (operations w h q) (submitted_of v q) ≡ Some o → Stands w h (after_submit v (lowered w h v.journal q (submitted_of v q + 1) o))
 stands_submit w h v q o s within is =
     let b : Batch = lowered w h v.journal q (submitted_of v q + 1) o in
-    let count : submitted_of v q ≡ length (of_queue q s.rest) = submitted_is w v s.rest q s.begins (s.queues q within).numbered in
+    let count : submitted_of v q ≡ length (of_queue q s.rest) = submitted_is w v s.rest q (begins_of w h v s (omega (arith, within))) (s.queues q within).numbered in
     record {
       rest = s.rest ++ b ∷ [];
-      begins = ap (λ j. j ++ b ∷ []) s.begins;
-      lowered_rest = lowered_more w h 0 (startup w ∷ []) s.rest b (omega arith) s.lowered_rest (record {
+      begins = ap (λ j. j ++ b ∷ []) s.begins ∙ append_assoc (opening_batches w) s.rest (b ∷ []);
+      lowered_rest = lowered_more w h 0 (opening_batches w) s.rest b (omega arith) s.lowered_rest (record {
         operation = o;
         called = ap (slice_get (operations w h q)) (omega arith) ∙ is;
         batch = ap (λ j. lowered w h j q (submitted_of v q + 1) o) s.begins;
@@ -192,11 +193,11 @@ stands_submit w h v q o s within is =
 -- a completion, where the timeline of the queue rises by one and the others stay
 pub stands_complete : (w : World) (h : List Event) (e : Event) (v u : VkState) → Stands w h v → u.journal ≡ v.journal →
     ((q : ℕ) → q < length w.queues → counter_of u q ≡ counter_of v q + completions_by q e) →
-    ((q : ℕ) (rest : List Batch) → v.journal ≡ startup w ∷ rest → q < length w.queues → counter_of v q + completions_by q e ≤ length (of_queue q rest)) → Stands w (h ++ e ∷ []) u
+    ((q : ℕ) (rest : List Batch) → v.journal ≡ opening_batches w ++ rest → q < length w.queues → counter_of v q + completions_by q e ≤ length (of_queue q rest)) → Stands w (h ++ e ∷ []) u
 stands_complete w h e v u s journal rises most = record {
   rest = s.rest;
   begins = journal ∙ s.begins;
-  lowered_rest = lowered_on w h (e ∷ []) 0 (startup w ∷ []) s.rest s.lowered_rest;
+  lowered_rest = lowered_on w h (e ∷ []) 0 (opening_batches w) s.rest s.lowered_rest;
   queues = λ q within. let at : StandsAt w h s.rest v q = s.queues q within in record {
     numbered = at.numbered;
     of_called = omega (arith, at.of_called, operations_more w h e q);

@@ -1,9 +1,11 @@
 -- Each step of the system leaves less work or fewer free steps, and what the history and the device say of each other.
-use Rattle.std.proofs.Common.{ℕ, ◌≡◌, ◌<◌, ◌≤◌, ◌+◌, ◌∙◌, sym, ap, subst, refl, arith, List, [], ◌∷◌, ◌++◌, length, map, Some, None, Option, true, append-nil, inl, inr}
+use Rattle.std.proofs.Common.{ℕ, ◌≡◌, ◌<◌, ◌≤◌, ◌+◌, ◌∙◌, sym, ap, subst, refl, arith, List, [], ◌∷◌, ◌++◌, length, map, Some, None, Option, true, append-nil, inl, inr, Result, Ok, Err, OnOk, OnErr}
 use Rattle.std.proofs.lemmas.Bool.{ltb-true}
 use Rattle.std.proofs.lemmas.Bool.Decides.{leb_tells}
 use Rattle.std.specs.List.{slice_get}
-use Rattle.std.specs.Prelude.{nat_lt}
+use Rattle.std.specs.Prelude.{⊤, nat_lt}
+use Rattle.dx_base.specs.declared.steps.Step.{Step}
+use Rattle.dx_base.specs.declared.steps.Step.TheVariants as step
 use Rattle.dx_base.specs.declared.ids.ThreadId.{ThreadId}
 use Rattle.d3d_machine.specs.declared.world.World.{World}
 use Rattle.d3d_machine.specs.declared.calls.Call.{Call}
@@ -23,6 +25,8 @@ use Rattle.vk_port.specs.Enabled.{enabled_steps}
 use Rattle.vk_port.specs.VkState.{VkState}
 use Rattle.vk_port.proofs.Lists.{item_at}
 use Rattle.sys_core.specs.declared.parts.Parts.{Parts}
+use Rattle.sys_core.specs.declared.faults.SysFault.{SysFault}
+use Rattle.sys_core.specs.Goes.{IsStep, WasTaken}
 use Rattle.sys_core.specs.Lowering.{lowered}
 use Rattle.sys_core.specs.Parts.{updates_in, reply_by, device_by}
 use Rattle.sys_core.specs.Steps.{is_ready_thread, is_ready_worker, thread_event, place_event, call_event, seen_state, after_event, submitted_of, submitted_batches, next_batch, after_submits, step_events, IsDeviceStep}
@@ -30,7 +34,7 @@ use Rattle.sys_core.specs.Work.{work}
 use Rattle.sys_core.specs.Ahead.{IsWhole}
 use Rattle.sys_core.specs.Keeps.{Keeps}
 use Rattle.sys_core.proofs.Values.{values_are}
-use Rattle.sys_core.proofs.Threading.{reply_seen, device_seen}
+use Rattle.sys_core.proofs.Threading.{reply_seen, device_awake, device_seen}
 use Rattle.sys_core.proofs.Whole.{whole_call, whole_awake, whole_submit, whole_step}
 use Rattle.sys_core.proofs.Work.{call_falls, awake_falls, submit_falls, device_falls}
 
@@ -81,7 +85,7 @@ module _ {D : Type 0} (state : D → VkState) (plan_of : D → Option DevicePlan
       by_waits : (o : Option Waiting) → (place_of (state_after w h).desk t.0).waits ≡ o → Goes w h k (state d) u a b
       by_waits (Some x) waits =
           thread_by t (event.Awake t) k u (ap (place_event w (seen_state w h (state d)) t.0) waits) history device a b
-          (awake_went t x ready waits a b same)
+          (subst (λ y. Goes w h (h ++ event.Awake t ∷ []) (state d) y a b) (device_awake state plan_of w h p d keeps t) (awake_went t x ready waits a b same))
       by_waits None waits =
           let made : ℕ = (place_of (state_after w h).desk t.0).made in
           let left : made < length (script_of w t.0) =
@@ -115,22 +119,76 @@ module _ {D : Type 0} (state : D → VkState) (plan_of : D → Option DevicePlan
         whole = whole_submit w h v q batch o keeps.consistent.world keeps.consistent.device within found.1 refl refl refl;
       })
 
-  -- the device's first step
-  pub device_went : (k : List Event) (u : VkState) → IsDeviceStep h k (state d) u 0 → IsRunButWords w k →
-      (a b : ℕ) → b ≤ a → (length (enabled_steps (state d)) ≤ 0 → a ≡ b + 1) → Goes w h k (state d) u a b
-  device_went k u is run a b less free =
+  -- a step of the device
+  pub device_went : (j : ℕ) (k : List Event) (u : VkState) → IsDeviceStep h k (state d) u j → IsRunButWords w k →
+      (a b : ℕ) → b ≤ a → (length (enabled_steps (state d)) ≤ j → a ≡ b + 1) → Goes w h k (state d) u a b
+  device_went j k u is run a b less free =
       let v : VkState = state d in
       let s : Stepped = is.step in
-      elim (leb_tells (length (enabled_steps v)) 0) [
+      elim (leb_tells (length (enabled_steps v)) j) [
         | inl past ↦
             let none : s ≡ stepped.Free = is.free past.1 in
             goes_of w h k h v u v a b (is.history ∙ ap (λ x. h ++ step_events x) none ∙ append-nil h) (is.state ∙ ap (after_step v) none)
             (record { falls = omega (arith, free past.1); whole = λ x. x })
         | inr within ↦
-            let at : slice_get (enabled_steps v) 0 ≡ Some s = is.named within.1 in
+            let at : slice_get (enabled_steps v) j ≡ Some s = is.named within.1 in
             goes_of w h k (h ++ step_events s) v u (after_step v s) a b is.history is.state
             (record {
-              falls = omega (arith, device_falls w h v 0 s keeps.consistent.device.valid at, less);
-              whole = whole_step w h v s keeps.consistent.world keeps.consistent.run keeps.consistent.device at (subst (IsRunButWords w) is.history run);
+              falls = omega (arith, device_falls w h v j s keeps.consistent.device.valid at, less);
+              whole = whole_step w h v j s keeps.consistent.world keeps.consistent.run keeps.consistent.device at (subst (IsRunButWords w) is.history run);
             })
       ]
+
+  -- what a step leaves, taken or refused
+  pub whole_of : (k : List Event) (v : VkState) (res : Result ⊤ SysFault) → IsWhole w h (state d) → OnOk res (IsWhole w h (state d) → IsWhole w k v) →
+      OnErr res (k ≡ h) → OnErr res (v ≡ state d) → IsWhole w k v
+  whole_of k v (Ok x) is went same same_state = went is
+  whole_of k v (Err e) is went same same_state = subst (λ u. IsWhole w k u) (sym same_state) (subst (λ l. IsWhole w l (state d)) (sym same) is)
+
+  -- a thread's step that went
+  pub thread_goes : (t : ThreadId) → is_ready_thread w h t.0 ≡ true → (k : List Event) (v : VkState) (res : Result ⊤ SysFault) →
+      OnOk res (k ≡ h ++ thread_event w h (state d) t.0 ∷ []) → OnOk res (v ≡ after_event w h (state d) (thread_event w h (state d) t.0)) →
+      (a b : ℕ) → b ≡ a → OnOk res (Goes w h k (state d) v a b)
+  thread_goes t ready k v (Ok x) event device a b same = thread_went t ready k v event device a b same
+  thread_goes t ready k v (Err e) event device a b same = tt
+
+  -- a worker's step that went
+  pub worker_goes : (q : ℕ) → q < length w.queues → is_ready_worker w h (state d) q ≡ true → (v : VkState) (res : Result ⊤ SysFault) →
+      OnOk res (v ≡ after_submits (state d) (submitted_batches w h (state d) q)) → (a b : ℕ) → b ≡ a → OnOk res (Goes w h h (state d) v a b)
+  worker_goes q within ready v (Ok x) device a b same = worker_went q within ready v device a b same
+  worker_goes q within ready v (Err e) device a b same = tt
+
+  -- a device's step that went
+  pub device_goes : (j : ℕ) (k : List Event) (v : VkState) (res : Result ⊤ SysFault) → OnOk res (IsDeviceStep h k (state d) v j) → IsRunButWords w k →
+      (a b : ℕ) → b ≤ a → OnOk res (length (enabled_steps (state d)) ≤ j → a ≡ b + 1) → OnOk res (Goes w h k (state d) v a b)
+  device_goes j k v (Ok x) step run a b less free = device_went j k v step run a b less free
+  device_goes j k v (Err e) step run a b less free = tt
+
+  pub whole_goes : (k : List Event) (v : VkState) (a b : ℕ) (res : Result ⊤ SysFault) → OnOk res (Goes w h k (state d) v a b) → OnOk res (IsWhole w h (state d) → IsWhole w k v)
+  whole_goes k v a b (Ok x) goes = goes.whole
+  whole_goes k v a b (Err e) goes = tt
+
+  -- a step that was taken
+  pub taken : (rest_of : D → ℕ) (s : Step) (k : List Event) (e : D) (res : Result ⊤ SysFault) →
+      OnOk res (IsStep w (record { history = h; device = state d }) s (record { history = k; device = state e })) → OnOk res (Goes w h k (state d) (state e) (rest_of d) (rest_of e)) →
+      OnOk res (WasTaken state rest_of s (record { world = w; history = h; device = d }) (record { world = w; history = k; device = e }))
+  taken rest_of s k e (Ok x) step goes = record { world = refl; goes = step; falls = goes.falls }
+  taken rest_of s k e (Err x) step goes = tt
+
+  pub is_thread_step : (t : ℕ) (k : List Event) (e : D) (res : Result ⊤ SysFault) → OnOk res (k ≡ h ++ thread_event w h (state d) t ∷ []) →
+      OnOk res (state e ≡ after_event w h (state d) (thread_event w h (state d) t)) →
+      OnOk res (IsStep w (record { history = h; device = state d }) (step.Thread t) (record { history = k; device = state e }))
+  is_thread_step t k e (Ok x) event device =
+      ap (λ (l : List Event). record { history = l; device = state e }) event
+      ∙ ap (λ (v : VkState). record { history = h ++ thread_event w h (state d) t ∷ []; device = v }) device
+  is_thread_step t k e (Err x) event device = tt
+
+  pub is_worker_step : (q : ℕ) (e : D) (res : Result ⊤ SysFault) → OnOk res (state e ≡ after_submits (state d) (submitted_batches w h (state d) q)) →
+      OnOk res (IsStep w (record { history = h; device = state d }) (step.Worker q) (record { history = h; device = state e }))
+  is_worker_step q e (Ok x) device = ap (λ (v : VkState). record { history = h; device = v }) device
+  is_worker_step q e (Err x) device = tt
+
+-- what does not change stays
+pub stays_same : {A : Type 0} (res : Result ⊤ SysFault) (x : A) → OnErr res (x ≡ x)
+stays_same (Ok u) x = tt
+stays_same (Err e) x = refl

@@ -25,12 +25,14 @@ use Rattle.vk_port.specs.VkState.{VkState}
 use Rattle.sys_core.specs.declared.parts.Armed.{Armed}
 use Rattle.sys_core.specs.declared.parts.Seat.{Seat}
 use Rattle.sys_core.specs.declared.parts.Parts.{Parts}
+use Rattle.sys_core.specs.Memory.{memory_of, device_words}
 use Rattle.sys_core.specs.Parts.{queued, updates_in, state_by, reply_by, device_by, seat_after}
 use Rattle.sys_core.specs.Steps.{is_ready_thread, is_ready_place, thread_event, place_event, call_event, seen_state, after_event}
 use Rattle.sys_core.specs.Consistent.{place_from, waiting_from}
 use Rattle.sys_core.specs.Serving.{HasBuffers}
 use Rattle.sys_core.specs.Keeps.{Keeps, ready_by}
 use Rattle.sys_core.proofs.Buffers.{has_buffers}
+use Rattle.sys_core.proofs.Spread.{as_many, device_of_memory}
 use Rattle.sys_core.proofs.Calling.{refusal_is, good_alike}
 use Rattle.sys_core.proofs.Values.{values_are}
 use Rattle.sys_core.proofs.Keeping.{place_is, ready_is}
@@ -95,9 +97,9 @@ module _ {D : Type 0} (state : D → VkState) (plan_of : D → Option DevicePlan
 
   pub reply_seen : (c : Call) → reply_by w p.lists (map updates_in p.fences) (state d) c ≡ reply_of w (seen_state w h (state d)) c
   reply_seen c =
-      ap (λ r. reply_or r (good_reply (state_by p.lists (map updates_in p.fences) (state d)) c)) (refusal_is w (state_after w h).desk p.lists c keeps.consistent.lists_are)
+      ap (λ r. reply_or r (good_reply (state_by w p.lists (map updates_in p.fences) (state d)) c)) (refusal_is w (state_after w h).desk p.lists c keeps.consistent.lists_are)
       ∙ ap (reply_or (refusal w (state_after w h).desk c))
-      (good_alike c (state_by p.lists (map updates_in p.fences) (state d)) (seen_state w h (state d)) (values_are w h (map updates_in p.fences) keeps.consistent.fences_are) refl)
+      (good_alike c (state_by w p.lists (map updates_in p.fences) (state d)) (seen_state w h (state d)) (values_are w h (map updates_in p.fences) keeps.consistent.fences_are) refl)
 
   -- the event of a thread that makes its next call
   pub call_event_is : (t : ThreadId) (s : Seat) (c : Call) → slice_get p.seats t.0 ≡ Some s → s.waits ≡ None → slice_get (script_of w t.0) s.made ≡ Some c →
@@ -107,8 +109,15 @@ module _ {D : Type 0} (state : D → VkState) (plan_of : D → Option DevicePlan
       ∙ sym (ap (place_event w (seen_state w h (state d)) t.0) (waits_is t.0 s at ∙ ap (option_map (waiting_from w h)) waits)
       ∙ ap (call_event w (seen_state w h (state d)) t.0) (next_is t.0 s c at next))
 
+  -- the device after a thread's waking
+  pub device_awake : (t : ThreadId) → state d ≡ after_event w h (state d) (event.Awake t)
+  device_awake t =
+      let vs : List (List ℕ) → VkState = λ ws. record (state d) { words = ws } in
+      ap vs (sym (device_of_memory w (state d).words (as_many w (state d) keeps.consistent.device.objects)))
+
   -- the device after a call
   pub device_seen : (c : Call) (t : ThreadId) (r : Reply) → device_by w p.lists (state d) c ≡ after_event w h (state d) (event.Call t c r)
   device_seen c t r =
       let vs : List (List ℕ) → VkState = λ ws. record (state d) { words = ws } in
-      ap (λ o. vs (memory_or o (written c (state d).words) (state d).words)) (refusal_is w (state_after w h).desk p.lists c keeps.consistent.lists_are)
+      let mine : List (List ℕ) = memory_of w (state d).words in
+      ap (λ o. vs (device_words w (memory_or o (written c mine) mine))) (refusal_is w (state_after w h).desk p.lists c keeps.consistent.lists_are)

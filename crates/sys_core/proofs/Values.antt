@@ -1,6 +1,7 @@
 -- A fence's last update is its value.
-use Rattle.std.proofs.Common.{ℕ, zero, suc, ◌≡◌, ◌<◌, ◌-◌, ◌∙◌, sym, ap, refl, arith, List, [], ◌∷◌, length, drop, map, slice_get, Option, Some, None}
+use Rattle.std.proofs.Common.{ℕ, zero, suc, ◌≡◌, ◌<◌, ◌-◌, ◌∙◌, sym, ap, refl, arith, List, [], ◌∷◌, length, drop, map, slice_get, Option, Some, None, Result, Ok, Err, IfOk}
 use Rattle.std.specs.Prelude.{slice_index_or}
+use Rattle.dx_base.specs.Roomy.{Roomy}
 use Rattle.d3d_machine.specs.declared.world.World.{World}
 use Rattle.d3d_machine.specs.declared.events.Event.{Event}
 use Rattle.d3d_machine.specs.State.{value_of}
@@ -9,6 +10,7 @@ use Rattle.d3d_machine.specs.Fences.{applied_updates}
 use Rattle.d3d_machine.proofs.Marks.{value_is_last, current_is_last}
 use Rattle.d3d_machine.proofs.Shape.{run_has_shape}
 use Rattle.sys_core.specs.Consistent.{AreFences}
+use Rattle.sys_core.specs.Parts.{updates_in}
 use Rattle.sys_core.specs.Values.{last_of}
 
 -- the element behind which a list ends
@@ -49,3 +51,13 @@ values_are w h fences are =
     (λ f inside.
     let within : f < length w.fences = omega (arith, inside, many) in
     ap last_in (are.each f within) ∙ last_is_value w h f within)
+
+-- the last updates, by fences with room
+pub values_through : (fences : List (Roomy ℕ)) → map (λ u. last_of u.items) fences ≡ map last_of (map updates_in fences)
+values_through [] = refl
+values_through (u ∷ us) = ap (λ xs. last_of u.items ∷ xs) (values_through us)
+
+-- an answer that is a value, is one that the value is
+pub ok_same : {A E : Type 0} (res : Result A E) (a b : A) → IfOk res (λ x. x ≡ a) → a ≡ b → IfOk res (λ x. x ≡ b)
+ok_same (Ok x) a b is same = is ∙ same
+ok_same (Err e) a b is same = tt

@@ -344,12 +344,12 @@ submitted_there v b q differs =
     ]
 
 -- an operation weighs more than the steps of its batch
-operation_pays : (o : Operation) → operation_weight o ≡ 3 + length (lowered_commands o)
-operation_pays (operation.Execute cs) =
-    let commands = map (λ c. lower_record c.what) cs in
+operation_pays : (w : World) (o : Operation) → operation_weight o ≡ 3 + length (lowered_commands w o)
+operation_pays w (operation.Execute cs) =
+    let commands = map (λ c. lower_record w c.what) cs in
     let many : length (commands ++ trailing ∷ []) ≡ length commands + 1 = length-append commands (trailing ∷ []) in
-    omega (arith, many, length-map cs (λ c. lower_record c.what))
-operation_pays (operation.Signal f v) = refl
+    omega (arith, many, length-map cs (λ c. lower_record w c.what))
+operation_pays w (operation.Signal f v) = refl
 
 -- a queue's work when its next operation is submitted
 queue_submit : (w : World) (h : List Event) (v : VkState) (q : ℕ) (o : Operation) (b : Batch) → slice_get (operations w h q) (submitted_of v q) ≡ Some o →
@@ -362,7 +362,7 @@ queue_submit w h v q o b is queue number =
 
 -- the submission of the next operation of a queue leaves less work
 pub submit_falls : (w : World) (h : List Event) (v : VkState) (q : ℕ) (o : Operation) (b : Batch) → q < length w.queues →
-    slice_get (operations w h q) (submitted_of v q) ≡ Some o → b.queue ≡ q → b.number ≡ submitted_of v q + 1 → b.commands ≡ lowered_commands o →
+    slice_get (operations w h q) (submitted_of v q) ≡ Some o → b.queue ≡ q → b.number ≡ submitted_of v q + 1 → b.commands ≡ lowered_commands w o →
     IsValid v → q < length v.lanes → work w h (after_submit v b) < work w h v
 submit_falls w h v q o b within is queue number commands valid lane =
     let less : held_work w h (after_submit v b) + operation_weight o ≤ held_work w h v =
@@ -370,7 +370,7 @@ submit_falls w h v q o b within is queue number commands valid lane =
     (λ p other. omega (arith, ap (λ n. operations_work (drop n (operations w h p))) (submitted_there v b p (λ same. other (same ∙ queue)))))
     (omega (arith, queue_submit w h v q o b is queue number)) (omega arith) (omega (arith, within)) in
     let left : steps_left (after_submit v b) ≡ steps_left v + (2 + length b.commands) = submit_left v b valid (omega (arith, queue, lane)) in
-    omega (arith, less, left, operation_pays o, ap length commands)
+    omega (arith, less, left, operation_pays w o, ap length commands)
 
 threads_completed : (scripts : List (List Call)) (d : Desk) (o : Option Operation) → threads_work scripts (desk_after_operation d o).threads ≡ threads_work scripts d.threads
 threads_completed scripts d None = refl

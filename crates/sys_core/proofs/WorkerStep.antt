@@ -32,14 +32,15 @@ use Rattle.vk_port.proofs.Lists.{item_at}
 use Rattle.sys_core.specs.declared.parts.Held.{Held}
 use Rattle.sys_core.specs.declared.parts.Parts.{Parts}
 use Rattle.sys_core.specs.Lowering.{plan_of_world, lowered}
-use Rattle.sys_core.specs.Batches.{batch_by, is_small_operation}
+use Rattle.sys_core.specs.Batches.{batch_by, is_numbered_operation}
 use Rattle.sys_core.specs.Parts.{queued, updates_in, submitted_one}
 use Rattle.sys_core.specs.Steps.{submitted_of, is_ready_worker, submitted_batches, next_batch, after_submits}
 use Rattle.sys_core.specs.Consistent.{IsHeld, IsConsistent}
 use Rattle.sys_core.specs.Keeps.{Keeps}
 use Rattle.sys_core.proofs.Holding.{slice_get_drop}
 use Rattle.sys_core.proofs.Standing.{next_is}
-use Rattle.sys_core.proofs.Fitting.{small_operation, batch_fits}
+use Rattle.sys_core.proofs.Startup.{begins_of}
+use Rattle.sys_core.proofs.Fitting.{numbered_operation, batch_fits}
 use Rattle.sys_core.proofs.Working.{lowered_is, consistent_submit}
 
 one_at_most : (b : Bool) (o : Operation) → length (if b then o ∷ [] else []) ≤ 1
@@ -100,19 +101,19 @@ module _ {D : Type 0} (state : D → VkState) (plan_of : D → Option DevicePlan
         },
       )
 
-  pub small_next : (o : Operation) → is_good_operation w o ≡ true → is_small_operation o ≡ true
-  small_next o good = small_operation w o keeps.consistent.world good
+  pub numbered_next : (o : Operation) → is_good_operation w o ≡ true → is_numbered_operation w o ≡ true
+  numbered_next o good = numbered_operation w o keeps.consistent.world good
 
   pub number_next : (q : ℕ) (y : Held) (o : Operation) → q < length w.queues → IsNext w h (state d) q y o → y.submitted + 1 ≡ next_number q (state d).journal
   number_next q y o within next =
       ap (λ k. k + 1) next.held.submitted_is
-      ∙ sym (next_is w (state d) keeps.consistent.device.stands.rest q keeps.consistent.device.stands.begins (keeps.consistent.device.stands.queues q within).numbered)
+      ∙ sym (next_is w (state d) keeps.consistent.device.stands.rest q (begins_of w h (state d) keeps.consistent.device.stands (omega (arith, within))) (keeps.consistent.device.stands.queues q within).numbered)
 
   pub fits_next : (q : ℕ) (y : Held) (o : Operation) (b : Batch) → q < length w.queues → IsNext w h (state d) q y o → b ≡ batch_by w q (y.submitted + 1) y.last_signal o →
       IfSome (plan_of d) (λ plan. fits_plan plan b ≡ true)
   fits_next q y o b within next is =
       subst (λ plan. IfSome plan (λ x. fits_plan x b ≡ true)) (sym keeps.plan)
-      (ap (fits_plan (plan_of_world w)) is ∙ batch_fits w q (y.submitted + 1) y.last_signal o keeps.consistent.world within next.good)
+      (ap (fits_plan (plan_of_world w)) is ∙ batch_fits w q (y.submitted + 1) y.last_signal o within next.good)
 
   -- the batch that was submitted is the lowered one
   pub batch_next : (q : ℕ) (y : Held) (o : Operation) (b : Batch) → q < length w.queues → IsNext w h (state d) q y o → b ≡ batch_by w q (y.submitted + 1) y.last_signal o →
@@ -139,4 +140,5 @@ module _ {D : Type 0} (state : D → VkState) (plan_of : D → Option DevicePlan
             (subst (λ x. IsConsistent w h p.lists p.seats (map updates_in p.fences) x (after_submit (state d) (lowered w h (state d).journal q (submitted_of (state d) q + 1) o))) (sym held)
             (consistent_submit w h p.lists p.seats (map updates_in p.fences) (map queued p.held) (state d) q (queued y) o keeps.consistent at_queued next.head));
         plan = plan ∙ keeps.plan;
+        numbers = keeps.numbers;
       }

@@ -31,10 +31,11 @@ use Rattle.sys_core.specs.Steps.{submitted_of}
 use Rattle.sys_core.specs.Consistent.{IsHeld, AreHeld, IsDevice, IsConsistent, finished_of}
 use Rattle.sys_core.proofs.Standing.{stands_submit, submitted_is, next_is, of_queue_append}
 use Rattle.sys_core.proofs.Holding.{held_submit, slice_get_drop}
+use Rattle.sys_core.proofs.Startup.{begins_of}
 
 -- the one queue
 one_queue : (w : World) (q : ℕ) → IsWorld w → q < length w.queues → (q ≡ 0) × (length w.queues ≡ 1)
-one_queue w q world within = (omega (arith, world.one_queue), omega (arith, world.one_queue))
+one_queue w q world within = (omega (arith, within, world.few_queues), omega (arith, within, world.few_queues))
 
 no_other : (w : World) (h : List Event) (q : ℕ) → q ≡ 0 → length w.queues ≡ 1 → other_counters h q 0 (length w.queues) ≡ []
 no_other w h q zeroth one = ap (other_counters h q 0) one ∙ ap (λ p. other_counters h p 0 1) zeroth
@@ -68,7 +69,7 @@ lowered_is w h v q x o world device held within =
     let waits : waits_of w h v.journal q before o ≡ waits_by (length w.queues) q x.last_signal o =
     waits_are w h v.journal q before o one.0 one.1 device.named
     ∙ ap (λ n. waits_by (length w.queues) q n o) (ap (last_signal 1 0) front ∙ sym held.last_is) in
-    let batch : List (ℕ × ℕ) → ℕ → Batch = λ ws n. record { queue = q; number = n; waits = ws; commands = lowered_commands o; sets = (q, n) ∷ [] } in
+    let batch : List (ℕ × ℕ) → ℕ → Batch = λ ws n. record { queue = q; number = n; waits = ws; commands = lowered_commands w o; sets = (q, n) ∷ [] } in
     ap (λ ws. batch ws (submitted_of v q + 1)) waits ∙ ap (batch (waits_by (length w.queues) q x.last_signal o)) (ap (λ k. k + 1) (sym held.submitted_is))
 
 lane_after : (b : Batch) (p : ℕ) (v : VkState) → b.queue < length v.lanes → length (lane_of (after_submit v b) p).batches ≡ length (lane_of v p).batches + (if (b.queue == p) then 1 else 0)
@@ -110,10 +111,12 @@ begins_with w p j rest begins = ap (λ bs. length (of_queue p bs)) begins ∙ by
 submitted_after : (w : World) (h : List Event) (v : VkState) (b : Batch) (p : ℕ) → Stands w h v → Stands w h (after_submit v b) → p < length w.queues →
     submitted_of (after_submit v b) p ≡ submitted_of v p + (if (b.queue == p) then 1 else 0)
 submitted_after w h v b p stands after within =
-    let one : submitted_of v p ≡ length (of_queue p stands.rest) = submitted_is w v stands.rest p stands.begins (stands.queues p within).numbered in
-    let two : submitted_of (after_submit v b) p ≡ length (of_queue p after.rest) = submitted_is w (after_submit v b) after.rest p after.begins (after.queues p within).numbered in
+    let begins : v.journal ≡ startup w ∷ stands.rest = begins_of w h v stands (omega (arith, within)) in
+    let now : (after_submit v b).journal ≡ startup w ∷ after.rest = begins_of w h (after_submit v b) after (omega (arith, within)) in
+    let one : submitted_of v p ≡ length (of_queue p stands.rest) = submitted_is w v stands.rest p begins (stands.queues p within).numbered in
+    let two : submitted_of (after_submit v b) p ≡ length (of_queue p after.rest) = submitted_is w (after_submit v b) after.rest p now (after.queues p within).numbered in
     let more : length (of_queue p (after_submit v b).journal) ≡ length (of_queue p v.journal) + (if (b.queue == p) then 1 else 0) = journal_after b p v in
-    omega (arith, one, two, more, begins_with w p v.journal stands.rest stands.begins, begins_with w p (after_submit v b).journal after.rest after.begins)
+    omega (arith, one, two, more, begins_with w p v.journal stands.rest begins, begins_with w p (after_submit v b).journal after.rest now)
 
 mapped_some : {A B : Type 0} (f : A → B) (o : Option A) (y : B) → option_map f o ≡ Some y → (x : A) × (o ≡ Some x) × (y ≡ f x)
 mapped_some f None y is = absurd (cc)
@@ -158,11 +161,12 @@ consistent_submit w h lists seats fences held v q x o is at head =
     let lanes : q < length v.lanes = omega (arith, within, is.device.objects.lanes) in
     let holds : IsHeld w h v q x = is.held_are.each q x at in
     let stands : Stands w h v = is.device.stands in
-    let next : next_number q v.journal ≡ submitted_of v q + 1 = next_is w v stands.rest q stands.begins (stands.queues q within).numbered in
+    let begins : v.journal ≡ startup w ∷ stands.rest = begins_of w h v stands (omega (arith, within)) in
+    let next : next_number q v.journal ≡ submitted_of v q + 1 = next_is w v stands.rest q begins (stands.queues q within).numbered in
     let called : slice_get (operations w h q) (submitted_of v q) ≡ Some o =
     ap (slice_get (operations w h q)) (sym holds.submitted_is) ∙ sym (slice_get_drop x.submitted (operations w h q)) ∙ ap (λ xs. slice_get xs 0) (sym holds.rest) ∙ head in
     let after : Stands w h u = stands_submit w h v q o stands within called in
-    let count : submitted_of v q ≡ length (of_queue q stands.rest) = submitted_is w v stands.rest q stands.begins (stands.queues q within).numbered in
+    let count : submitted_of v q ≡ length (of_queue q stands.rest) = submitted_is w v stands.rest q begins (stands.queues q within).numbered in
     record {
       world = is.world;
       run = is.run;

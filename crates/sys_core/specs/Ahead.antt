@@ -1,5 +1,6 @@
 -- The device's words with what it has yet to do, and the machine's memory with what it has yet to complete.
 use Rattle.std.specs.Prelude.{ℕ, ◌≡◌, List, [], ◌∷◌, ◌++◌, drop, Option, Some, None, Bool, true, false}
+use Rattle.std.specs.List.{list_all}
 use Rattle.dx_base.specs.declared.hresult.Hresult.{Hresult}
 use Rattle.d3d_machine.specs.declared.world.World.{World}
 use Rattle.d3d_machine.specs.declared.calls.Call.{Call}
@@ -17,7 +18,9 @@ use Rattle.vk_port.specs.declared.lanes.Running.{Running}
 use Rattle.vk_port.specs.After.{after_command}
 use Rattle.vk_port.specs.Enabled.{undone}
 use Rattle.vk_port.specs.VkState.{VkState, lane_of}
+use Rattle.sys_core.specs.InOrder.{is_single, are_in_order}
 use Rattle.sys_core.specs.Lowering.{lowered_commands}
+use Rattle.sys_core.specs.Memory.{memory_of}
 use Rattle.sys_core.specs.Steps.{submitted_of}
 
 -- the words after commands in order
@@ -31,9 +34,9 @@ batches_undone [] = []
 batches_undone (r ∷ rs) = undone r ++ batches_undone rs
 
 -- the commands of the batches of operations, in order
-abbrev pub held_commands : List Operation → List VkCommand
-held_commands [] = []
-held_commands (o ∷ os) = lowered_commands o ++ held_commands os
+abbrev pub held_commands : World → List Operation → List VkCommand
+held_commands w [] = []
+held_commands w (o ∷ os) = lowered_commands w o ++ held_commands w os
 
 -- the memory after operations in order
 abbrev pub memory_ahead : List Operation → List (List ℕ) → List (List ℕ)
@@ -43,7 +46,7 @@ memory_ahead (o ∷ os) m = memory_ahead os (memory_after_operation m (Some o))
 -- the device's words after its commands that are not done, and after the operations that are not submitted, are
 -- the machine's memory after each called operation that is not complete
 pub record IsAhead (w : World) (h : List Event) (v : VkState) : Type 0 where
-  pub ahead : memory_ahead (drop (submitted_of v 0) (operations w h 0)) (run_commands (batches_undone (lane_of v 0).batches) v.words)
+  pub ahead : memory_ahead (drop (submitted_of v 0) (operations w h 0)) (memory_of w (run_commands (batches_undone (lane_of v 0).batches) v.words))
       ≡ memory_ahead (drop (counter h 0) (operations w h 0)) (state_after w h).memory
 
 -- no called operation is incomplete
@@ -83,7 +86,17 @@ AreQuietFrom w s (e ∷ h) = ((is_host_access w s e ≡ true) → IsQuiet s) × 
 abbrev pub AreHostAccessesQuiet : World → List Event → Type 0
 AreHostAccessesQuiet w h = AreQuietFrom w (first_state w) h
 
--- where host accesses come only when no called operation is incomplete, the history is a run with its words
+-- each called operation has at most one command
+abbrev pub AreSingle : World → List Event → Type 0
+AreSingle w h = (q : ℕ) → list_all is_single (operations w h q) ≡ true
+
+-- host accesses come only where no called operation is incomplete, and each called operation has at most one command
+pub record IsCalm (w : World) (h : List Event) : Type 0 where
+  pub quiet : AreHostAccessesQuiet w h
+  pub single : AreSingle w h
+
+-- a calm history is a run with its words
 pub record IsWhole (w : World) (h : List Event) (v : VkState) : Type 0 where
-  pub run : AreHostAccessesQuiet w h → IsRun w h
-  pub words : AreHostAccessesQuiet w h → IsAhead w h v
+  pub run : IsCalm w h → IsRun w h
+  pub words : IsCalm w h → IsAhead w h v
+  pub in_order : IsCalm w h → are_in_order (lane_of v 0).batches ≡ true

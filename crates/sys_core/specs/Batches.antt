@@ -2,6 +2,7 @@
 use Rattle.std.specs.Prelude.{ℕ, ◌/◌, ◌^◌, ◌&&◌, nat_lt, List, [], ◌∷◌, length, Bool, true}
 use Rattle.std.specs.List.{list_all}
 use Rattle.d3d_machine.specs.declared.world.World.{World}
+use Rattle.d3d_machine.specs.World.{is_named_record}
 use Rattle.d3d_machine.specs.declared.calls.Record.{Record}
 use Rattle.d3d_machine.specs.declared.calls.Record.TheVariants.{Copy}
 use Rattle.d3d_machine.specs.declared.events.Operation.{Operation}
@@ -20,7 +21,7 @@ batch_by w q n last o = record {
   queue = q;
   number = n;
   waits = waits_by (length w.queues) q last o;
-  commands = lowered_commands o;
+  commands = lowered_commands w o;
   sets = (q, n) ∷ [];
 }
 
@@ -28,6 +29,11 @@ batch_by w q n last o = record {
 abbrev pub is_small_record : Record → Bool
 is_small_record (Copy d doff s soff bytes) = nat_lt (doff / 4) (2 ^ 32) && (nat_lt (soff / 4) (2 ^ 32) && nat_lt (bytes / 4) (2 ^ 32))
 
-abbrev pub is_small_operation : Operation → Bool
-is_small_operation (Execute cs) = list_all (λ c. is_small_record c.what) cs
-is_small_operation (Signal f v) = true
+-- a recorded command has its numbers: it names resources of the world, and its words are numbered by 32 bits
+abbrev pub is_numbered_record : World → Record → Bool
+is_numbered_record w what = is_named_record w what && is_small_record what
+
+-- the recorded commands of an operation have their numbers
+abbrev pub is_numbered_operation : World → Operation → Bool
+is_numbered_operation w (Execute cs) = list_all (λ c. is_numbered_record w c.what) cs
+is_numbered_operation w (Signal f v) = true

@@ -9,9 +9,10 @@ use Rattle.vk_types.specs.declared.plan.DevicePlan.{DevicePlan}
 use Rattle.vk_port.specs.VkState.{VkState}
 use Rattle.sys_core.specs.declared.parts.Seat.{Seat}
 use Rattle.sys_core.specs.declared.parts.Parts.{Parts}
-use Rattle.sys_core.specs.Lowering.{plan_of_world}
+use Rattle.sys_core.specs.Lowering.{plan_of_world, AreNumbers}
 use Rattle.sys_core.specs.Parts.{queued, updates_in, is_met_by}
 use Rattle.sys_core.specs.Consistent.{IsDevice, IsConsistent}
+use Rattle.sys_core.specs.Ahead.{IsWhole}
 
 -- what is seen of the system: its world, its history, and its device
 pub record SysView (D : Type 0) : Type 0 where
@@ -19,10 +20,11 @@ pub record SysView (D : Type 0) : Type 0 where
   pub history : List Event
   pub device : D
 
--- the parts and the device are those after the history, and the device has the world's objects
+-- the parts and the device are those after the history, the device has the world's objects, and the parts their numbers
 pub record Keeps {D : Type 0} (state : D → VkState) (plan_of : D → Option DevicePlan) (w : World) (h : List Event) (p : Parts) (d : D) : Type 0 where
   pub consistent : IsConsistent w h p.lists p.seats (map updates_in p.fences) (map queued p.held) (state d)
   pub plan : plan_of d ≡ Some (plan_of_world w)
+  pub numbers : AreNumbers w.resources p.numbers
 
 -- the history is a run of the world but for words, and the device stands
 pub record IsSystem (w : World) (h : List Event) (v : VkState) : Type 0 where
@@ -33,3 +35,9 @@ pub record IsSystem (w : World) (h : List Event) (v : VkState) : Type 0 where
 -- a thread can go on, by its place: it has a call left and does not wait, or its wait is met
 abbrev pub ready_by : List Call → List (List ℕ) → Seat → Bool
 ready_by script fences s = elim s.waits [ None ↦ nat_lt s.made (length script) | Some a ↦ is_met_by fences a ]
+
+-- what the type of the system keeps: its parts and its device are those after the history, and a calm history is a run
+-- with its words
+pub record IsSys {D : Type 0} (state : D → VkState) (plan_of : D → Option DevicePlan) (w : World) (h : List Event) (p : Parts) (d : D) : Type 0 where
+  pub keeps : Keeps state plan_of w h p d
+  pub whole : IsWhole w h (state d)

@@ -1,13 +1,11 @@
--- The laws of the system and of runs of the form, as types.
-use Rattle.std.specs.Prelude.{ℕ, ◌≡◌, ◌<◌, ◌⊎◌, List, length, Some, true}
+-- The laws of the system, as types.
+use Rattle.std.specs.Prelude.{ℕ, ◌≡◌, ◌<◌, ◌⊎◌, List, length, true}
 use Rattle.d3d_machine.specs.declared.world.World.{World}
 use Rattle.d3d_machine.specs.declared.events.Event.{Event}
 use Rattle.d3d_machine.specs.World.{IsWorld}
 use Rattle.d3d_machine.specs.State.{called_of}
-use Rattle.d3d_machine.specs.Play.{IsRunButWords, IsFinished, state_after}
-use Rattle.trace_text.specs.Form.{world_of}
+use Rattle.d3d_machine.specs.Play.{IsRunButWords, state_after}
 use Rattle.vk_port.specs.VkState.{VkState}
-use Rattle.sys_core.specs.Ahead.{AreHostAccessesQuiet}
 use Rattle.sys_core.specs.Consistent.{IsDevice}
 use Rattle.sys_core.specs.Steps.{enabled_of, is_ready_thread}
 
@@ -20,11 +18,3 @@ CanGoOn w h =
 -- where the Direct3D machine can go on, the system has a step
 abbrev pub StepsGoOn : Type 0
 StepsGoOn = (w : World) → (h : List Event) → (v : VkState) → (free : ℕ) → IsWorld w → IsRunButWords w h → IsDevice w h v → CanGoOn w h → 0 < length (enabled_of w h v free)
-
--- after each run of a world of the form, all is finished or the Direct3D machine can go on
-abbrev pub FormGoesOn : Type 0
-FormGoesOn = (text : List ℕ) → (w : World) → (h : List Event) → world_of text ≡ Some w → IsRunButWords w h → IsFinished w (state_after w h).desk ⊎ CanGoOn w h
-
--- in each run of a world of the form, host accesses come only where no called operation is incomplete
-abbrev pub FormIsQuiet : Type 0
-FormIsQuiet = (text : List ℕ) → (w : World) → (h : List Event) → world_of text ≡ Some w → IsRunButWords w h → AreHostAccessesQuiet w h

@@ -1,4 +1,5 @@
 pub mod Lowering
+pub mod Memory
 pub mod Stands
 pub mod Steps
 pub mod Parts
@@ -8,9 +9,12 @@ pub mod FaultOf
 pub mod Serving
 pub mod Work
 pub mod Keeps
+pub mod InOrder
 pub mod Ahead
-pub mod FormRuns
-pub mod First
+pub mod Nth
+pub mod Goes
+pub mod Over
+pub mod Opened
+pub mod Finished
 pub mod Values
-pub mod Report
 pub mod Laws

@@ -1,5 +1,5 @@
 -- How operations of the Direct3D machine become batches of the Vulkan machine.
-use Rattle.std.specs.Prelude.{ℕ, zero, suc, ◌+◌, ◌-◌, ◌/◌, ◌==◌, ◌&&◌, not, nat_lt, List, [], ◌∷◌, ◌++◌, length, map, take, slice_get, Option, Some, None, Bool, false, if◌then◌else◌}
+use Rattle.std.specs.Prelude.{ℕ, zero, suc, ◌≡◌, ◌<◌, ◌+◌, ◌-◌, ◌/◌, ◌==◌, ◌&&◌, not, nat_lt, List, [], ◌∷◌, ◌++◌, length, map, take, slice_get, Option, Some, None, Bool, false, if◌then◌else◌}
 use Rattle.d3d_machine.specs.declared.world.World.{World}
 use Rattle.d3d_machine.specs.declared.world.Resource.{Resource}
 use Rattle.d3d_machine.specs.declared.world.Resource.TheVariants.{Buffer}
@@ -24,6 +24,19 @@ plan_buffers [] = []
 plan_buffers (None ∷ rs) = plan_buffers rs
 plan_buffers (Some (Buffer h n) ∷ rs) = (record { words = n; home = h }) ∷ plan_buffers rs
 
+-- how many live resources come before an id
+abbrev pub number_in : List (Option Resource) → ℕ → ℕ
+number_in rs b = length (plan_buffers (take b rs))
+
+-- the number of a buffer on the device: how many live resources come before its id
+abbrev pub plan_number : World → ℕ → ℕ
+plan_number w b = number_in w.resources b
+
+-- a table has the number of each resource
+pub record AreNumbers (rs : List (Option Resource)) (numbers : List ℕ) : Type 0 where
+  pub count : length numbers ≡ length rs
+  pub each : (b : ℕ) → b < length rs → slice_get numbers b ≡ Some (number_in rs b)
+
 -- the device's objects for a world: its live buffers, its queues, and a timeline for each queue and one for the start-up
 abbrev pub plan_of_world : World → DevicePlan
 plan_of_world w = record {
@@ -38,6 +51,10 @@ plan_of_world w = record {
 -- the start-up batch: the first queue's batch 0, which sets the start-up timeline to 1
 abbrev pub startup : World → Batch
 startup w = record { queue = 0; number = 0; waits = []; commands = []; sets = (length w.queues, 1) ∷ [] }
+
+-- the batches submitted before any call: the start-up batch, where there is a queue
+abbrev pub opening_batches : World → List Batch
+opening_batches w = if nat_lt 0 (length w.queues) then startup w ∷ [] else []
 
 -- the sets of one stage
 abbrev pub all_commands : Stages
@@ -64,17 +81,17 @@ leading = vk.Barrier all_commands memory_write all_commands memory_read_write No
 abbrev pub trailing : VkCommand
 trailing = vk.Barrier all_commands memory_write host host_read None
 
--- a recorded command in Vulkan's words: numbers of bytes become numbers of words
-abbrev pub lower_record : Record → VkCommand
-lower_record (Copy d doff s soff bytes) = vk.Copy d.0 (doff / 4) s.0 (soff / 4) (bytes / 4)
+-- a recorded command in Vulkan's words: a buffer's id becomes its number, numbers of bytes become numbers of words
+abbrev pub lower_record : World → Record → VkCommand
+lower_record w (Copy d doff s soff bytes) = vk.Copy (plan_number w d.0) (doff / 4) (plan_number w s.0) (soff / 4) (bytes / 4)
 
-abbrev pub lower_commands : List Command → List VkCommand
-lower_commands cs = map (λ c. lower_record c.what) cs
+abbrev pub lower_commands : World → List Command → List VkCommand
+lower_commands w cs = map (λ c. lower_record w c.what) cs
 
 -- the commands of an operation's batch
-abbrev pub lowered_commands : Operation → List VkCommand
-lowered_commands (Execute cs) = leading ∷ (lower_commands cs ++ trailing ∷ [])
-lowered_commands (Signal f v) = []
+abbrev pub lowered_commands : World → Operation → List VkCommand
+lowered_commands w (Execute cs) = leading ∷ (lower_commands w cs ++ trailing ∷ [])
+lowered_commands w (Signal f v) = []
 
 -- the number of the last signal among operations of which the first has number n; `found` where there is none
 abbrev pub last_signal : ℕ → ℕ → List Operation → ℕ
@@ -124,6 +141,6 @@ lowered w h earlier q n o = record {
   queue = q;
   number = n;
   waits = waits_of w h earlier q (take (n - 1) (operations w h q)) o;
-  commands = lowered_commands o;
+  commands = lowered_commands w o;
   sets = (q, n) ∷ [];
 }

@@ -19,6 +19,7 @@ use Rattle.sys_core.specs.declared.parts.Armed.{Armed}
 use Rattle.sys_core.specs.declared.parts.Seat.{Seat}
 use Rattle.sys_core.specs.declared.parts.Signalled.{Signalled}
 use Rattle.sys_core.specs.declared.parts.Held.{Held}
+use Rattle.sys_core.specs.Memory.{memory_of, device_words}
 use Rattle.sys_core.specs.Values.{last_of}
 
 -- a queue: its operations that are not submitted, how many are, the last submitted signal's number, and the
@@ -50,12 +51,12 @@ abbrev pub desk_of : List Listed → Desk
 desk_of lists = record { fences = []; called = []; lists = lists; threads = [] }
 
 -- the state that the lists, the fences' last updates and the device's words give
-abbrev pub state_by : List Listed → List (List ℕ) → VkState → State
-state_by lists fences v = record { desk = record { fences = map last_of fences; called = []; lists = lists; threads = [] }; memory = v.words }
+abbrev pub state_by : World → List Listed → List (List ℕ) → VkState → State
+state_by w lists fences v = record { desk = record { fences = map last_of fences; called = []; lists = lists; threads = [] }; memory = memory_of w v.words }
 
 -- the reply of a call, by the lists, the fences' last updates and the device's words
 abbrev pub reply_by : World → List Listed → List (List ℕ) → VkState → Call → Reply
-reply_by w lists fences v c = reply_or (refusal w (desk_of lists) c) (good_reply (state_by lists fences v) c)
+reply_by w lists fences v c = reply_or (refusal w (desk_of lists) c) (good_reply (state_by w lists fences v) c)
 
 -- the lists after a call
 abbrev pub lists_by : World → List Listed → Call → List Listed
@@ -63,7 +64,7 @@ lists_by w lists c = (desk_after_call w (desk_of lists) 0 c).lists
 
 -- the device after a call: a host write that is not refused stores its words
 abbrev pub device_by : World → List Listed → VkState → Call → VkState
-device_by w lists v c = record v { words = memory_or (refusal w (desk_of lists) c) (written c v.words) v.words }
+device_by w lists v c = record v { words = device_words w (memory_or (refusal w (desk_of lists) c) (written c (memory_of w v.words)) (memory_of w v.words)) }
 
 -- the queue with one more operation
 abbrev pub with_operation : Operation → Queued → Queued

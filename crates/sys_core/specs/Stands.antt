@@ -7,7 +7,7 @@ use Rattle.d3d_machine.specs.Operations.{operations, counter}
 use Rattle.vk_types.specs.declared.batches.Batch.{Batch}
 use Rattle.vk_port.specs.Journal.{of_queue, are_numbered}
 use Rattle.vk_port.specs.VkState.{VkState, counter_of}
-use Rattle.sys_core.specs.Lowering.{startup, lowered}
+use Rattle.sys_core.specs.Lowering.{opening_batches, lowered}
 
 -- a batch is that of an operation which the events called, lowered after these events and these batches
 pub record IsLowered (w : World) (h : List Event) (earlier : List Batch) (b : Batch) : Type 0 where
@@ -29,9 +29,9 @@ pub record StandsAt (w : World) (h : List Event) (rest : List Batch) (v : VkStat
   pub counter_is : counter_of v q ≡ counter h q
   pub done : counter h q ≤ length (of_queue q rest)
 
--- the journal is the start-up batch and the lowered batches of the first operations of each queue
+-- the journal is the batches submitted before any call, and the lowered batches of the first operations of each queue
 pub record Stands (w : World) (h : List Event) (v : VkState) : Type 0 where
   pub rest : List Batch
-  pub begins : v.journal ≡ startup w ∷ rest
-  pub lowered_rest : AreLowered w h 0 (startup w ∷ []) rest
+  pub begins : v.journal ≡ opening_batches w ++ rest
+  pub lowered_rest : AreLowered w h 0 (opening_batches w) rest
   pub queues : (q : ℕ) → q < length w.queues → StandsAt w h rest v q

@@ -1,5 +1,5 @@
 -- The steps of the system, and what each does to the history and to the device.
-use Rattle.std.specs.Prelude.{ℕ, zero, suc, ◌≡◌, ◌≤◌, ◌<◌, ◌+◌, ◌-◌, ◌==◌, nat_lt, List, [], ◌∷◌, ◌++◌, length, slice_get, Option, Some, None, Bool, true, if◌then◌else◌}
+use Rattle.std.specs.Prelude.{ℕ, zero, suc, ◌≡◌, ◌≤◌, ◌<◌, ◌+◌, ◌-◌, ◌^◌, ◌==◌, min, nat_lt, List, [], ◌∷◌, ◌++◌, length, slice_get, Option, Some, None, Bool, true, if◌then◌else◌}
 use Rattle.dx_base.specs.declared.steps.Step.{Step}
 use Rattle.dx_base.specs.declared.steps.Step.TheVariants as step
 use Rattle.d3d_machine.specs.declared.world.World.{World}
@@ -21,6 +21,7 @@ use Rattle.vk_port.specs.VkState.{VkState}
 use Rattle.vk_port.specs.After.{after_submit, after_step}
 use Rattle.vk_port.specs.Enabled.{enabled_steps}
 use Rattle.sys_core.specs.Lowering.{lowered}
+use Rattle.sys_core.specs.Memory.{memory_of, device_words}
 
 -- a thread's step is enabled where it does not wait and its script has a next call, or its wait is met
 abbrev pub is_ready_place : List Call → Place → Bool
@@ -45,16 +46,26 @@ steps_where test make n (suc k) = (if test n then make n ∷ [] else []) ++ step
 abbrev pub always : ℕ → Bool
 always n = true
 
+-- how many of the device's steps have a number: a step names its place by 32 bits
+abbrev pub numbered : ℕ → ℕ
+numbered n = min n (2 ^ 32)
+
 -- all enabled steps in order: threads, workers, then the device's steps
 abbrev pub enabled_of : World → List Event → VkState → ℕ → List Step
 enabled_of w h v free =
     steps_where (is_ready_thread w h) (λ t. step.Thread t) 0 (length w.scripts)
     ++ (steps_where (is_ready_worker w h v) (λ q. step.Worker q) 0 (length w.queues)
-    ++ steps_where always (λ k. step.Device k) 0 (steps_offered v free))
+    ++ steps_where always (λ k. step.Device k) 0 (numbered (steps_offered v free)))
+
+-- a step can be taken: its thread can go on, its queue has an operation that is not submitted, or the device offers it
+abbrev pub CanBeTaken : World → List Event → VkState → ℕ → Step → Type 0
+CanBeTaken w h v free (step.Thread t) = (t < length w.scripts) × (is_ready_thread w h t ≡ true)
+CanBeTaken w h v free (step.Worker q) = (q < length w.queues) × (is_ready_worker w h v q ≡ true)
+CanBeTaken w h v free (step.Device k) = k < steps_offered v free
 
 -- the Direct3D state of a history, with the words that the device has
 abbrev pub seen_state : World → List Event → VkState → State
-seen_state w h v = record { desk = (state_after w h).desk; memory = v.words }
+seen_state w h v = record { desk = (state_after w h).desk; memory = memory_of w v.words }
 
 -- the event of a call that a thread has next; a read gives the words that the device has
 abbrev pub call_event : World → State → ℕ → Option Call → Event
@@ -71,7 +82,7 @@ thread_event w h v t = place_event w (seen_state w h v) t (place_of (state_after
 
 -- the device after an event of a thread: a host write that is not refused stores its words
 abbrev pub after_event : World → List Event → VkState → Event → VkState
-after_event w h v e = record v { words = memory_after w (seen_state w h v) e }
+after_event w h v e = record v { words = device_words w (memory_after w (seen_state w h v) e) }
 
 -- the event of a device's step: the end of an operation's batch completes the operation
 abbrev pub step_events : Stepped → List Event

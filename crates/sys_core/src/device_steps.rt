@@ -17,7 +17,7 @@ use d3d_machine::{Event, World};
 use dx_base::{Memory, QueueId, Room, Seq};
 use vk_port::{NoSets, Stepped, VkDevice};
 
-/// The place of the one queue.
+/// The place of the one queue, where there is one.
 const ONE_QUEUE: usize = 0;
 
 /// The first submitted signal of a queue, where its operation has that number, is taken out.
@@ -43,6 +43,17 @@ fn reserve_update(held: &Held, fences: &mut Seq<Room<u64>>) -> Result<(), Memory
 {
     match held.signals.front() {
         Some(signal) => reserve_update_of(fences, signal.fence),
+        None => Ok(()),
+    }
+}
+
+/// Makes room for one update of the fence that the one queue's first submitted signal is of, where there is a queue.
+fn reserve_next(held: &Seq<Held>, fences: &mut Seq<Room<u64>>) -> Result<(), Memory>
+    ensures room { OnOk result (IfSome (slice_get held.now 0) (λ x. HasRoomFor (first_signal (queued x)) fences.new)) }
+    ensures same { map updates_in fences.new ≡ map updates_in fences.old }
+{
+    match held.get(ONE_QUEUE) {
+        Some(held) => reserve_update(held, fences),
         None => Ok(()),
     }
 }
@@ -79,7 +90,7 @@ pub(crate) fn device_step<D: VkDevice>(
 {
     let _queues = world.queues.len();
     history.reserve()?;
-    reserve_update(parts.held.at(ONE_QUEUE), &mut parts.fences)?;
+    reserve_next(&parts.held, &mut parts.fences)?;
     match device.step(k, &mut NoSets)? {
         Stepped::Passed(_, _) => Ok(()),
         Stepped::Ran(_, _, _) => Ok(()),

@@ -78,6 +78,17 @@ fn last_update(updates: &Room<u64>) -> u64
     }
 }
 
+/// The last update of each fence.
+pub(crate) fn last_values(alloc: Global, fences: &[Room<u64>]) -> Result<Seq<u64>, Memory>
+    ensures { IfOk result (λ values. values ≡ map (λ updates. last_of updates.items) fences.now) }
+{
+    let mut values = Seq::new(alloc);
+    for updates in fences {
+        values.push(last_update(updates))?;
+    }
+    Ok(values)
+}
+
 /// The place of the last update of a fence.
 #[tactic(auto, using(crate::proofs::Updates::updates_of_none, crate::proofs::Updates::updates_of_some))]
 pub(crate) fn last_place(fences: &Seq<Room<u64>>, fence: FenceId) -> usize

@@ -4,11 +4,12 @@
 mod device_steps;
 mod faults;
 mod fences;
-mod first;
+mod finished;
 mod laws;
 mod lowering;
+mod nth;
+mod over;
 mod parts;
-mod runner;
 mod serve;
 mod sys;
 #[cfg(test)]
@@ -17,9 +18,8 @@ mod threads;
 mod worker;
 
 pub use faults::SysFault;
-pub use laws::{
-    a_step_is_enabled_where_the_machine_has_one, runs_of_the_form_are_quiet, runs_of_the_form_go_on,
-};
+pub use laws::a_step_is_enabled_where_the_machine_has_one;
 pub use lowering::{batch_of, plan_of};
+pub use over::Over;
 pub use parts::{Armed, Held, Parts, Seat, Signalled};
-pub use runner::simulate;
+pub use sys::Sys;

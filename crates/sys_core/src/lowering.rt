@@ -2,11 +2,11 @@
 
 ghost use Rattle.std.specs.Prelude.{◌≡◌, ◌<◌, ◌≤◌, ◌+◌, ◌^◌, [], ◌∷◌, ◌++◌, true, length, IfOk};
 ghost use Rattle.std.specs.List.{list_all};
-ghost use Rattle.sys_core.specs.Lowering.{plan_of_world, plan_buffers, startup, leading, trailing, lower_record, lower_commands, lowered_commands, own_wait};
-ghost use Rattle.sys_core.specs.Batches.{batch_by, waits_by, is_small_record, is_small_operation};
+ghost use Rattle.sys_core.specs.Lowering.{AreNumbers, plan_of_world, plan_buffers, plan_number, startup, leading, trailing, lower_record, lower_commands, lowered_commands, own_wait};
+ghost use Rattle.sys_core.specs.Batches.{batch_by, waits_by, is_numbered_record, is_numbered_operation};
 
 use d3d_machine::{Command, Operation, Record, Resource, World};
-use dx_base::{Memory, Seq};
+use dx_base::{Memory, ResourceId, Seq};
 use std::alloc::Global;
 use vk_port::{Accesses, Batch, DevicePlan, PlanBuffer, Stages, VkCommand};
 
@@ -44,6 +44,33 @@ fn buffers_of(alloc: Global, resources: &[Option<Resource>]) -> Result<Seq<PlanB
     Ok(buffers)
 }
 
+/// The number on the device of each resource: how many live ones come before it.
+pub(crate) fn numbers_of(alloc: Global, resources: &[Option<Resource>]) -> Result<Seq<u32>, Memory>
+    requires { length resources.now ≤ 4096 }
+    ensures { IfOk result (λ numbers. AreNumbers resources.now numbers) }
+{
+    let mut numbers = Seq::new(alloc);
+    let mut number = 0;
+    for resource in resources {
+        numbers.push(number)?;
+        if resource.is_some() {
+            number += 1;
+        }
+    }
+    Ok(numbers)
+}
+
+/// The number on the device of a resource, by the table of all.
+#[tactic(auto, using(crate::proofs::Numbers::number_there, crate::proofs::Numbers::number_is))]
+pub(crate) fn number_of(world: &World, numbers: &Seq<u32>, resource: ResourceId) -> u32
+    requires numbers { AreNumbers world.now.resources numbers.now }
+    requires named { resource.0 < length world.now.resources }
+    ensures { result ≡ plan_number world.now resource.0 }
+{
+    let _world = world;
+    *numbers.at(resource.0 as usize)
+}
+
 /// The start-up batch of a world.
 pub(crate) fn startup_batch(alloc: Global, world: &World) -> Result<Batch, Memory>
     requires { length world.now.queues ≤ 16 }
@@ -67,17 +94,20 @@ fn one_pair(alloc: Global, timeline: u32, value: u64) -> Result<Seq<(u32, u64)>,
     Ok(pairs)
 }
 
-/// The batch of an operation of a queue, with its number, behind a last signal of that number.
+/// The batch of an operation of a queue, with its number, behind a last signal of that number. `numbers` has the
+/// number on the device of each resource.
 pub fn batch_of(
     alloc: Global,
     world: &World,
+    numbers: &Seq<u32>,
     queue: u32,
     number: u64,
     last_signal: u64,
     operation: &Operation,
 ) -> Result<Batch, Memory>
     requires queues { length world.now.queues ≤ 16 }
-    requires small { is_small_operation operation.now ≡ true }
+    requires numbers { AreNumbers world.now.resources numbers.now }
+    requires numbered { is_numbered_operation world.now operation.now ≡ true }
     ensures { IfOk result (λ batch. batch ≡ batch_by world.now queue number last_signal operation.now) }
 {
     let waits = waits_of(
@@ -87,7 +117,7 @@ pub fn batch_of(
         last_signal,
         operation,
     )?;
-    let commands = commands_of(alloc, operation)?;
+    let commands = commands_of(alloc, world, numbers, operation)?;
     let sets = one_pair(alloc, queue, number)?;
     Ok(Batch {
         queue,
@@ -131,26 +161,40 @@ fn execute_waits(
 }
 
 /// The commands of an operation's batch.
-fn commands_of(alloc: Global, operation: &Operation) -> Result<Seq<VkCommand>, Memory>
-    requires { is_small_operation operation.now ≡ true }
-    ensures { IfOk result (λ commands. commands ≡ lowered_commands operation.now) }
+fn commands_of(
+    alloc: Global,
+    world: &World,
+    numbers: &Seq<u32>,
+    operation: &Operation,
+) -> Result<Seq<VkCommand>, Memory>
+    requires numbers { AreNumbers world.now.resources numbers.now }
+    requires numbered { is_numbered_operation world.now operation.now ≡ true }
+    ensures { IfOk result (λ commands. commands ≡ lowered_commands world.now operation.now) }
 {
     match operation {
-        Operation::Execute { commands } => execute_commands(alloc, commands.as_slice()),
+        Operation::Execute { commands } => {
+            execute_commands(alloc, world, numbers, commands.as_slice())
+        }
         Operation::Signal { .. } => Ok(Seq::new(alloc)),
     }
 }
 
 /// The commands of an execute's batch: what was recorded, between a barrier before it that makes all
 /// earlier writes visible, and one behind it that makes all writes visible to the host.
-fn execute_commands(alloc: Global, recorded: &[Command]) -> Result<Seq<VkCommand>, Memory>
-    requires { list_all (λ c. is_small_record c.what) recorded.now ≡ true }
-    ensures { IfOk result (λ commands. commands ≡ leading ∷ (lower_commands recorded.now ++ trailing ∷ [])) }
+fn execute_commands(
+    alloc: Global,
+    world: &World,
+    numbers: &Seq<u32>,
+    recorded: &[Command],
+) -> Result<Seq<VkCommand>, Memory>
+    requires numbers { AreNumbers world.now.resources numbers.now }
+    requires numbered { list_all (λ c. is_numbered_record world.now c.what) recorded.now ≡ true }
+    ensures { IfOk result (λ commands. commands ≡ leading ∷ (lower_commands world.now recorded.now ++ trailing ∷ [])) }
 {
     let mut commands = Seq::new(alloc);
     commands.push(leading_barrier())?;
     for command in recorded {
-        commands.push(lowered_record(command.what))?;
+        commands.push(lowered_record(world, numbers, command.what))?;
     }
     commands.push(trailing_barrier())?;
     Ok(commands)
@@ -183,9 +227,10 @@ fn trailing_barrier() -> VkCommand
 }
 
 /// A recorded command in Vulkan's words.
-fn lowered_record(what: Record) -> VkCommand
-    requires { is_small_record what ≡ true }
-    ensures { result ≡ lower_record what }
+fn lowered_record(world: &World, numbers: &Seq<u32>, what: Record) -> VkCommand
+    requires numbers { AreNumbers world.now.resources numbers.now }
+    requires numbered { is_numbered_record world.now what ≡ true }
+    ensures { result ≡ lower_record world.now what }
 {
     match what {
         Record::Copy {
@@ -195,9 +240,9 @@ fn lowered_record(what: Record) -> VkCommand
             from_offset,
             bytes,
         } => VkCommand::Copy {
-            to: to.0,
+            to: number_of(world, numbers, to),
             to_first: (to_offset / 4) as u32,
-            from: from.0,
+            from: number_of(world, numbers, from),
             from_first: (from_offset / 4) as u32,
             words: (bytes / 4) as u32,
         },

@@ -4,9 +4,11 @@
 ghost use Rattle.std.specs.Prelude.{◌≡◌, ◌<◌, ◌≤◌, ◌+◌, ◌-◌, ◌++◌, ◌∷◌, [], map, length, slice_get, slice_index_or, Some, None, IfOk, OnOk, OnErr};
 ghost use Rattle.dx_base.specs.Lists.{changed_at};
 ghost use Rattle.d3d_machine.specs.State.{declared_list};
+ghost use Rattle.sys_core.specs.Lowering.{AreNumbers};
 ghost use Rattle.sys_core.specs.Parts.{queued, updates_in, with_operation, armed_after, opening_seat, no_queue};
 
 use crate::fences::{last_place, starting_fences};
+use crate::lowering::numbers_of;
 use d3d_machine::{Call, Lists, Operation, World};
 use dx_base::{FenceId, Fifo, ListType, Memory, QueueId, Room, Seq};
 use std::alloc::Global;
@@ -50,32 +52,38 @@ pub struct Held {
     pub signals: Fifo<Signalled>,
 }
 
-/// All parts. Each fence has the list of its applied updates, its starting value first.
+/// All parts. Each fence has the list of its applied updates, its starting value first, and each resource the
+/// number that it has on the device.
 #[derive(Debug, Drop)]
 pub struct Parts {
     pub lists: Lists,
     pub seats: Seq<Seat>,
     pub fences: Seq<Room<u64>>,
     pub held: Seq<Held>,
+    pub numbers: Seq<u32>,
 }
 
 impl Parts {
     /// The parts of a world before any call.
     pub fn new(alloc: Global, world: &World) -> Result<Parts, Memory>
+        requires { length world.now.resources ≤ 4096 }
         ensures lists { IfOk result (λ parts. parts.lists ≡ map (λ _. declared_list) world.now.lists) }
         ensures seats { IfOk result (λ parts. parts.seats ≡ map (λ _. opening_seat) world.now.scripts) }
         ensures fences { IfOk result (λ parts. map updates_in parts.fences ≡ map (λ v. v ∷ []) world.now.fences) }
         ensures held { IfOk result (λ parts. map queued parts.held ≡ map (λ _. no_queue) world.now.queues) }
+        ensures numbers { IfOk result (λ parts. AreNumbers world.now.resources parts.numbers) }
     {
         let lists = Lists::new(alloc, world)?;
         let seats = opening_seats(alloc, world.scripts.as_slice())?;
         let fences = starting_fences(alloc, world.fences.as_slice())?;
         let held = empty_queues(alloc, world.queues.as_slice())?;
+        let numbers = numbers_of(alloc, world.resources.as_slice())?;
         Ok(Parts {
             lists,
             seats,
             fences,
             held,
+            numbers,
         })
     }
 }

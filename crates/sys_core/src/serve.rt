@@ -13,11 +13,14 @@ ghost use Rattle.d3d_machine.specs.Lists.{record_refusal, close_refusal, reset_r
 ghost use Rattle.d3d_machine.specs.Checks.{write_refusal as refusal_of_write, read_refusal as refusal_of_read};
 ghost use Rattle.vk_port.specs.Offers.{IsInside};
 ghost use Rattle.vk_port.specs.VkState.{VkState};
+ghost use Rattle.sys_core.specs.Lowering.{AreNumbers};
+ghost use Rattle.sys_core.specs.Memory.{memory_of, device_words};
 ghost use Rattle.sys_core.specs.Parts.{queued, updates_in, reply_by, device_by};
 ghost use Rattle.sys_core.specs.Serving.{HasBuffers, Serves, StaysParts, HasCause};
 
 use crate::faults::SysFault;
 use crate::fences::{push_update, reserve_update_of, value_of};
+use crate::lowering::number_of;
 use crate::parts::{Parts, push_operation};
 use d3d_machine::{Call, Lists, Operation, Record, Reply, World, read_refusal, write_refusal};
 use dx_base::{AllocatorId, FenceId, Hresult, ListId, Memory, QueueId, ResourceId, Seq};
@@ -25,48 +28,54 @@ use std::alloc::Global;
 use vk_port::VkDevice;
 
 /// A host write that is not refused.
-#[tactic(auto, using(crate::proofs::Inside::write_inside, crate::proofs::Inside::write_small))]
+#[tactic(auto, using(crate::proofs::Inside::write_inside, crate::proofs::Inside::write_small, crate::proofs::Inside::write_there, crate::proofs::Inside::write_seen))]
 fn write_words<D: VkDevice>(
     world: &World,
+    numbers: &Seq<u32>,
     device: &mut D,
     buffer: ResourceId,
     offset: u64,
     words: &Seq<u32>,
 ) -> Result<(), SysFault>
     requires plan { IsSome (D.plan_of device.old) }
+    requires numbers { AreNumbers world.now.resources numbers.now }
     requires buffers { HasBuffers world.now (D.state device.old) }
     requires good { refusal_of_write world.now buffer.0 offset (length words.now) ≡ None }
-    ensures state { OnOk result (D.state device.new ≡ record (D.state device.old) { words = changed_at (put (offset / 4) words.now) buffer.0 (D.state device.old).words }) }
+    ensures state { OnOk result (D.state device.new ≡ record (D.state device.old) { words = device_words world.now (changed_at (put (offset / 4) words.now) buffer.0 (memory_of world.now (D.state device.old).words)) }) }
     ensures same { OnErr result (D.state device.new ≡ D.state device.old) }
     ensures plan { D.plan_of device.new ≡ D.plan_of device.old }
     ensures rest { D.rest_of device.new ≡ D.rest_of device.old }
     ensures faults { D.faults device.old ≤ D.faults device.new }
     ensures cause { HasCause (D.faults device.old) (D.faults device.new) result }
 {
-    device.host_write(buffer.0, (offset / 4) as u32, words.as_slice())?;
+    let number = number_of(world, numbers, buffer);
+    device.host_write(number, (offset / 4) as u32, words.as_slice())?;
     Ok(())
 }
 
 /// A host read that is not refused.
-#[tactic(auto, using(crate::proofs::Inside::read_inside, crate::proofs::Inside::read_small, crate::proofs::Inside::read_count_small))]
+#[tactic(auto, using(crate::proofs::Inside::read_inside, crate::proofs::Inside::read_small, crate::proofs::Inside::read_count_small, crate::proofs::Inside::read_there, crate::proofs::Inside::read_seen))]
 fn read_words<D: VkDevice>(
     world: &World,
+    numbers: &Seq<u32>,
     device: &mut D,
     buffer: ResourceId,
     offset: u64,
     bytes: u64,
 ) -> Result<Reply, SysFault>
     requires plan { IsSome (D.plan_of device.old) }
+    requires numbers { AreNumbers world.now.resources numbers.now }
     requires buffers { HasBuffers world.now (D.state device.old) }
     requires good { refusal_of_read world.now buffer.0 offset bytes ≡ None }
-    ensures words { IfOk result (λ reply. reply ≡ words_reply (range_of (offset / 4) (bytes / 4) (words_at (D.state device.old).words buffer.0))) }
+    ensures words { IfOk result (λ reply. reply ≡ words_reply (range_of (offset / 4) (bytes / 4) (words_at (memory_of world.now (D.state device.old).words) buffer.0))) }
     ensures state { D.state device.new ≡ D.state device.old }
     ensures plan { D.plan_of device.new ≡ D.plan_of device.old }
     ensures rest { D.rest_of device.new ≡ D.rest_of device.old }
     ensures faults { D.faults device.old ≤ D.faults device.new }
     ensures cause { HasCause (D.faults device.old) (D.faults device.new) result }
 {
-    let words = device.host_read(buffer.0, (offset / 4) as u32, (bytes / 4) as u32)?;
+    let number = number_of(world, numbers, buffer);
+    let words = device.host_read(number, (offset / 4) as u32, (bytes / 4) as u32)?;
     Ok(Reply::Words(Seq::from_vec(words)))
 }
 
@@ -74,12 +83,14 @@ fn read_words<D: VkDevice>(
 fn serve_write<D: VkDevice>(
     world: &World,
     lists: &Lists,
+    numbers: &Seq<u32>,
     device: &mut D,
     buffer: ResourceId,
     offset: u64,
     words: &Seq<u32>,
 ) -> Result<Reply, SysFault>
     requires plan { IsSome (D.plan_of device.old) }
+    requires numbers { AreNumbers world.now.resources numbers.now }
     requires buffers { HasBuffers world.now (D.state device.old) }
     ensures reply { IfOk result (λ reply. reply ≡ reply_or (refusal_of_write world.now buffer.0 offset (length words.now)) done) }
     ensures state { OnOk result (D.state device.new ≡ device_by world.now lists.now (D.state device.old) (write_call buffer offset words.now)) }
@@ -93,7 +104,7 @@ fn serve_write<D: VkDevice>(
     match write_refusal(world, buffer, offset, words.len()) {
         Some(error) => Ok(Reply::Error(error)),
         None => {
-            write_words(world, device, buffer, offset, words)?;
+            write_words(world, numbers, device, buffer, offset, words)?;
             Ok(Reply::Done)
         }
     }
@@ -102,14 +113,16 @@ fn serve_write<D: VkDevice>(
 /// Serves a call that reads a buffer.
 fn serve_read<D: VkDevice>(
     world: &World,
+    numbers: &Seq<u32>,
     device: &mut D,
     buffer: ResourceId,
     offset: u64,
     bytes: u64,
 ) -> Result<Reply, SysFault>
     requires plan { IsSome (D.plan_of device.old) }
+    requires numbers { AreNumbers world.now.resources numbers.now }
     requires buffers { HasBuffers world.now (D.state device.old) }
-    ensures reply { IfOk result (λ reply. reply ≡ reply_or (refusal_of_read world.now buffer.0 offset bytes) (words_reply (range_of (offset / 4) (bytes / 4) (words_at (D.state device.old).words buffer.0)))) }
+    ensures reply { IfOk result (λ reply. reply ≡ reply_or (refusal_of_read world.now buffer.0 offset bytes) (words_reply (range_of (offset / 4) (bytes / 4) (words_at (memory_of world.now (D.state device.old).words) buffer.0)))) }
     ensures state { D.state device.new ≡ D.state device.old }
     ensures plan { D.plan_of device.new ≡ D.plan_of device.old }
     ensures rest { D.rest_of device.new ≡ D.rest_of device.old }
@@ -118,7 +131,7 @@ fn serve_read<D: VkDevice>(
 {
     match read_refusal(world, buffer, offset, bytes) {
         Some(error) => Ok(Reply::Error(error)),
-        None => read_words(world, device, buffer, offset, bytes),
+        None => read_words(world, numbers, device, buffer, offset, bytes),
     }
 }
 
@@ -237,6 +250,7 @@ pub(crate) fn serve<D: VkDevice>(
     call: &Call,
 ) -> Result<Reply, SysFault>
     requires plan { IsSome (D.plan_of device.old) }
+    requires numbers { AreNumbers world.now.resources parts.old.numbers }
     requires buffers { HasBuffers world.now (D.state device.old) }
     requires queues { length parts.old.held ≡ length world.now.queues }
     requires lists { length parts.old.lists ≡ length world.now.lists }
@@ -270,11 +284,19 @@ pub(crate) fn serve<D: VkDevice>(
             buffer,
             offset,
             words,
-        } => serve_write(world, &parts.lists, device, *buffer, *offset, words),
+        } => serve_write(
+            world,
+            &parts.lists,
+            &parts.numbers,
+            device,
+            *buffer,
+            *offset,
+            words,
+        ),
         Call::Read {
             buffer,
             offset,
             bytes,
-        } => serve_read(world, device, *buffer, *offset, *bytes),
+        } => serve_read(world, &parts.numbers, device, *buffer, *offset, *bytes),
     }
 }

@@ -1,45 +1,82 @@
-//! The system as a whole: it begins, and takes steps for as long as there is one.
+//! The system as a whole, and its steps.
 
-ghost use Rattle.std.specs.Prelude.{◌≡◌, ◌<◌, ◌≤◌, ◌+◌, [], length, true, false, None, IfOk, OnOk, OnErr};
+ghost use Rattle.std.specs.Prelude.{◌≡◌, ◌<◌, ◌≤◌, [], length, slice_get, true, None, Some, IfOk, IfErr, OnOk, OnErr};
 ghost use Rattle.d3d_machine.specs.World.{IsWorld};
+ghost use Rattle.d3d_machine.specs.Play.{state_after};
+ghost use Rattle.dx_base.specs.declared.steps.Step.TheVariants as step;
 ghost use Rattle.sys_core.specs.Ahead.{IsWhole};
-ghost use Rattle.sys_core.specs.Keeps.{Keeps};
-ghost use Rattle.sys_core.specs.Serving.{HasCause};
-ghost use Rattle.sys_core.specs.Steps.{enabled_of};
-ghost use Rattle.sys_core.specs.Work.{work};
+ghost use Rattle.sys_core.specs.Goes.{WasTaken, Stays};
+ghost use Rattle.sys_core.specs.Keeps.{Keeps, IsSystem};
+ghost use Rattle.sys_core.specs.Opened.{opened};
+ghost use Rattle.sys_core.specs.Over.{IsOver};
+ghost use Rattle.sys_core.specs.Serving.{HasCause, HasFaultCause};
+ghost use Rattle.sys_core.specs.Lowering.{plan_of_world, opening_batches, startup};
+ghost use Rattle.sys_core.specs.Steps.{after_submits, enabled_of, is_ready_thread, is_ready_worker};
+ghost use Rattle.vk_port.specs.Offers.{steps_offered};
+ghost use Rattle.vk_port.specs.VkState.{first_state};
 
-use crate::device_steps::device_step;
 use crate::faults::SysFault;
-use crate::first::first_step;
+use crate::fences::last_values;
+use crate::finished::is_finished;
 use crate::lowering::{plan_of, startup_batch};
+use crate::nth::{count_steps, nth_step};
+use crate::over::Over;
 use crate::parts::Parts;
-use crate::threads::thread_step;
-use crate::worker::worker_step;
+use crate::{device_steps, threads, worker};
 use d3d_machine::{Event, World};
-use dx_base::{QueueId, Room, Step, ThreadId};
+use dx_base::{Memory, QueueId, Room, Seq, Step, ThreadId};
 use std::alloc::Global;
-use vk_port::VkDevice;
+use std::marker::Model;
+use vk_port::{Batch, VkDevice};
 
-/// The system: a world, what happened, what is kept beside the device, and the device.
+/// The system: it serves the calls of the threads of a world, and runs a device. Contracts see its world, its history
+/// and its device. The history is a run of the world but for words, and the device has the batches that its operations
+/// lower to.
 #[derive(Drop)]
-pub(crate) struct Sys<D> {
-    pub world: World,
-    pub history: Room<Event>,
-    pub parts: Parts,
-    pub device: D,
+pub struct Sys<D: VkDevice> {
+    alloc: Global,
+    world: World,
+    history: Room<Event>,
+    parts: Parts,
+    device: D,
+}
+
+impl<D: VkDevice> Model for Sys<D> {
+    ghost use Rattle.sys_core.specs.Keeps.{SysView, IsSys};
+
+    ghost Value = { SysView D };
+
+    ghost view = { λ s. record { world = s.world; history = s.history.items; device = s.device } };
+
+    ghost invariant = { λ s. IsSys D.state D.plan_of s.world s.history.items s.parts s.device };
+}
+
+/// Submits the start-up batch, where there is a queue.
+fn submit_startup<D: VkDevice>(world: &World, device: &mut D, batch: Batch) -> Result<(), SysFault>
+    requires plan { D.plan_of device.old ≡ Some (plan_of_world world.now) }
+    requires objects { D.state device.old ≡ first_state (plan_of_world world.now) }
+    requires batch { batch ≡ startup world.now }
+    ensures state { OnOk result (D.state device.new ≡ after_submits (D.state device.old) (opening_batches world.now)) }
+    ensures same { OnErr result (D.state device.new ≡ D.state device.old) }
+    ensures plan { D.plan_of device.new ≡ D.plan_of device.old }
+    ensures faults { D.faults device.old ≤ D.faults device.new }
+    ensures cause { HasCause (D.faults device.old) (D.faults device.new) result }
+{
+    if world.queues.is_empty() {
+        return Ok(());
+    }
+    device.submit(batch)?;
+    Ok(())
 }
 
 /// The parts of a world before any call. The device gets the world's objects and the start-up batch.
-pub(crate) fn begin<D: VkDevice>(
-    alloc: Global,
-    world: &World,
-    device: &mut D,
-) -> Result<Parts, SysFault>
+fn begin<D: VkDevice>(alloc: Global, world: &World, device: &mut D) -> Result<Parts, SysFault>
     requires world { IsWorld world.now }
     requires no_plan { D.plan_of device.old ≡ None }
     requires new { (D.state device.old).journal ≡ [] }
     ensures keeps { IfOk result (λ parts. Keeps D.state D.plan_of world.now [] parts device.new) }
     ensures whole { OnOk result (IsWhole world.now [] (D.state device.new)) }
+    ensures opened { OnOk result (D.state device.new ≡ opened world.now) }
     ensures no_batch { OnErr result ((D.state device.new).journal ≡ []) }
     ensures faults { D.faults device.old ≤ D.faults device.new }
     ensures cause { HasCause (D.faults device.old) (D.faults device.new) result }
@@ -48,63 +85,148 @@ pub(crate) fn begin<D: VkDevice>(
     let plan = plan_of(alloc, world)?;
     let startup = startup_batch(alloc, world)?;
     device.create(&plan)?;
-    device.submit(startup)?;
+    submit_startup(world, device, startup)?;
     Ok(parts)
 }
 
-/// Takes the first enabled step. `false`: there is none.
-fn take_step<D: VkDevice>(alloc: Global, sys: &mut Sys<D>) -> Result<bool, SysFault>
-    requires keeps { Keeps D.state D.plan_of sys.old.world sys.old.history.items sys.old.parts sys.old.device }
-    ensures keeps { Keeps D.state D.plan_of sys.new.world sys.new.history.items sys.new.parts sys.new.device }
-    ensures world { sys.new.world ≡ sys.old.world }
-    ensures whole { IsWhole sys.old.world sys.old.history.items (D.state sys.old.device) → IsWhole sys.new.world sys.new.history.items (D.state sys.new.device) }
-    ensures falls { IfOk result (λ went. went ≡ true → work sys.new.world sys.new.history.items (D.state sys.new.device) + D.rest_of sys.new.device < work sys.old.world sys.old.history.items (D.state sys.old.device) + D.rest_of sys.old.device) }
-    ensures ended { IfOk result (λ went. went ≡ false → length (enabled_of sys.new.world sys.new.history.items (D.state sys.new.device) (D.offered sys.new.device)) ≡ 0) }
-    ensures faults { D.faults sys.old.device ≤ D.faults sys.new.device }
-    ensures cause { HasCause (D.faults sys.old.device) (D.faults sys.new.device) result }
-{
-    let Some(step) = first_step(&sys.world, &sys.history, &sys.parts, &sys.device) else {
-        return Ok(false);
-    };
-    match step {
-        Step::Thread(thread) => thread_step(
-            alloc,
-            &sys.world,
-            &mut sys.history,
-            &mut sys.parts,
-            &mut sys.device,
-            ThreadId(thread),
-        )?,
-        Step::Worker(queue) => worker_step(
-            alloc,
-            &sys.world,
-            &sys.history,
-            &mut sys.parts,
-            &mut sys.device,
-            QueueId(queue),
-        )?,
-        Step::Device(place) => device_step(
-            &sys.world,
-            &mut sys.history,
-            &mut sys.parts,
-            &mut sys.device,
-            place as usize,
-        )?,
+impl<D: VkDevice> Sys<D> {
+    /// The system of a world before any call. The device is new; it gets the world's objects and the start-up batch.
+    /// Refused, it is given back without a batch.
+    pub fn new(alloc: Global, world: World, device: D) -> Result<Sys<D>, (D, SysFault)>
+        requires world { IsWorld world }
+        requires no_plan { D.plan_of device ≡ None }
+        requires new { (D.state device).journal ≡ [] }
+        ensures world { IfOk result (λ sys. sys.world ≡ world) }
+        ensures history { IfOk result (λ sys. sys.history ≡ []) }
+        ensures opened { IfOk result (λ sys. D.state sys.device ≡ opened world) }
+        ensures system { IfOk result (λ sys. IsSystem sys.world sys.history (D.state sys.device)) }
+        ensures whole { IfOk result (λ sys. IsWhole sys.world sys.history (D.state sys.device)) }
+        ensures faults { IfOk result (λ sys. D.faults device ≤ D.faults sys.device) }
+        ensures no_batch { IfErr result (λ p. (D.state p.0).journal ≡ []) }
+        ensures cause { IfErr result (λ p. HasFaultCause p.1 (D.faults device) (D.faults p.0)) }
+    {
+        let mut device = device;
+        match begin(alloc, &world, &mut device) {
+            Ok(parts) => Ok(Sys {
+                alloc,
+                world,
+                history: Room::new(alloc),
+                parts,
+                device,
+            }),
+            Err(fault) => Err((device, fault)),
+        }
     }
-    Ok(true)
-}
 
-/// Takes the first enabled step until there is none.
-pub(crate) fn take_steps<D: VkDevice>(alloc: Global, sys: &mut Sys<D>) -> Result<(), SysFault>
-    requires keeps { Keeps D.state D.plan_of sys.old.world sys.old.history.items sys.old.parts sys.old.device }
-    requires whole { IsWhole sys.old.world sys.old.history.items (D.state sys.old.device) }
-    ensures keeps { Keeps D.state D.plan_of sys.new.world sys.new.history.items sys.new.parts sys.new.device }
-    ensures world { sys.new.world ≡ sys.old.world }
-    ensures whole { IsWhole sys.new.world sys.new.history.items (D.state sys.new.device) }
-    ensures ended { OnOk result (length (enabled_of sys.new.world sys.new.history.items (D.state sys.new.device) (D.offered sys.new.device)) ≡ 0) }
-    ensures faults { D.faults sys.old.device ≤ D.faults sys.new.device }
-    ensures cause { HasCause (D.faults sys.old.device) (D.faults sys.new.device) result }
-{
-    while take_step(alloc, sys)? {}
-    Ok(())
+    /// How many steps can be taken.
+    pub fn enabled(&self) -> usize
+        ensures { result ≡ length (enabled_of self.now.world self.now.history (D.state self.now.device) (D.offered self.now.device)) }
+    {
+        count_steps(&self.world, &self.history, &self.parts, &self.device)
+    }
+
+    /// The step of a place among those that can be taken, counted from 0: threads come first, then workers, then the
+    /// device's steps, each by number.
+    pub fn kth(&self, k: usize) -> Step
+        requires { k < length (enabled_of self.now.world self.now.history (D.state self.now.device) (D.offered self.now.device)) }
+        ensures { slice_get (enabled_of self.now.world self.now.history (D.state self.now.device) (D.offered self.now.device)) k ≡ Some result }
+    {
+        nth_step(&self.world, &self.history, &self.parts, &self.device, k)
+    }
+
+    /// A thread's step: it wakes where it waits, and otherwise makes its next call. Refused, all stays.
+    pub fn thread_step(&mut self, thread: ThreadId) -> Result<(), SysFault>
+        requires { is_ready_thread self.old.world self.old.history thread.0 ≡ true }
+        ensures taken { OnOk result (WasTaken D.state D.rest_of (step.Thread thread.0) self.old self.new) }
+        ensures system { IsSystem self.new.world self.new.history (D.state self.new.device) }
+        ensures whole { IsWhole self.new.world self.new.history (D.state self.new.device) }
+        ensures stays { OnErr result (Stays D.state self.old self.new) }
+        ensures faults { D.faults self.old.device ≤ D.faults self.new.device }
+        ensures cause { HasCause (D.faults self.old.device) (D.faults self.new.device) result }
+    {
+        threads::thread_step(
+            self.alloc,
+            &self.world,
+            &mut self.history,
+            &mut self.parts,
+            &mut self.device,
+            thread,
+        )
+    }
+
+    /// A step of a queue's worker: the batch of its next operation is submitted. Refused, all stays.
+    pub fn worker_step(&mut self, queue: QueueId) -> Result<(), SysFault>
+        requires queue { queue.0 < length self.old.world.queues }
+        requires ready { is_ready_worker self.old.world self.old.history (D.state self.old.device) queue.0 ≡ true }
+        ensures taken { OnOk result (WasTaken D.state D.rest_of (step.Worker queue.0) self.old self.new) }
+        ensures system { IsSystem self.new.world self.new.history (D.state self.new.device) }
+        ensures whole { IsWhole self.new.world self.new.history (D.state self.new.device) }
+        ensures stays { OnErr result (Stays D.state self.old self.new) }
+        ensures faults { D.faults self.old.device ≤ D.faults self.new.device }
+        ensures cause { HasCause (D.faults self.old.device) (D.faults self.new.device) result }
+    {
+        worker::worker_step(
+            self.alloc,
+            &self.world,
+            &self.history,
+            &mut self.parts,
+            &mut self.device,
+            queue,
+        )
+    }
+
+    /// A step of the device, of that place among those that it offers, counted from 0. Refused, all stays.
+    pub fn device_step(&mut self, k: usize) -> Result<(), SysFault>
+        requires { k < steps_offered (D.state self.old.device) (D.offered self.old.device) }
+        ensures taken { OnOk result (WasTaken D.state D.rest_of (step.Device k) self.old self.new) }
+        ensures system { IsSystem self.new.world self.new.history (D.state self.new.device) }
+        ensures whole { IsWhole self.new.world self.new.history (D.state self.new.device) }
+        ensures stays { OnErr result (Stays D.state self.old self.new) }
+        ensures faults { D.faults self.old.device ≤ D.faults self.new.device }
+        ensures cause { HasCause (D.faults self.old.device) (D.faults self.new.device) result }
+    {
+        device_steps::device_step(
+            &self.world,
+            &mut self.history,
+            &mut self.parts,
+            &mut self.device,
+            k,
+        )
+    }
+
+    /// How far the system has come.
+    pub fn over(&self) -> Over
+        ensures over { IsOver self.now.world self.now.history (D.state self.now.device) (D.offered self.now.device) result }
+        ensures system { IsSystem self.now.world self.now.history (D.state self.now.device) }
+    {
+        if is_finished(&self.world, &self.history, &self.parts, &self.device) {
+            Over::Done
+        } else if count_steps(&self.world, &self.history, &self.parts, &self.device) == 0 {
+            Over::Stalled
+        } else {
+            Over::Running
+        }
+    }
+
+    /// What happened so far.
+    pub fn history(&self) -> &[Event]
+        ensures { result.now ≡ self.now.history }
+    {
+        self.history.as_slice()
+    }
+
+    /// The value of each fence.
+    pub fn fences(&self) -> Result<Seq<u64>, Memory>
+        ensures { IfOk result (λ values. values ≡ (state_after self.now.world self.now.history).desk.fences) }
+    {
+        last_values(self.alloc, self.parts.fences.as_slice())
+    }
+
+    /// What happened, and the device.
+    pub fn into_parts(self) -> (Vec<Event>, D)
+        ensures history { result.0.items ≡ self.history }
+        ensures device { result.1 ≡ self.device }
+    {
+        (self.history.into_vec(), self.device)
+    }
 }

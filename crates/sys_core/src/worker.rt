@@ -2,7 +2,8 @@
 
 ghost use Rattle.std.specs.Prelude.{◌≡◌, ◌<◌, ◌≤◌, ◌+◌, ◌^◌, ◌++◌, ◌∷◌, [], map, length, true, slice_get, Some, None, IfOk, OnOk, OnErr, IsSome, IfSome};
 ghost use Rattle.dx_base.specs.Lists.{changed_at};
-ghost use Rattle.sys_core.specs.Batches.{batch_by, is_small_operation};
+ghost use Rattle.sys_core.specs.Batches.{batch_by, is_numbered_operation};
+ghost use Rattle.sys_core.specs.Lowering.{AreNumbers};
 ghost use Rattle.sys_core.specs.Parts.{queued, submitted_one, signal_of};
 ghost use Rattle.sys_core.specs.Steps.{is_ready_worker, submitted_batches, after_submits};
 ghost use Rattle.sys_core.specs.Serving.{HasCause};
@@ -20,12 +21,14 @@ use vk_port::{Batch, VkDevice};
 fn next_batch(
     alloc: Global,
     world: &World,
+    numbers: &Seq<u32>,
     held: &mut Held,
     queue: QueueId,
 ) -> Result<Batch, Memory>
-    requires one_queue { length world.now.queues ≤ 16 }
+    requires queues { length world.now.queues ≤ 16 }
+    requires numbers { AreNumbers world.now.resources numbers.now }
     requires next { IsSome (slice_get held.old.operations.items 0) }
-    requires small { IfSome (slice_get held.old.operations.items 0) (λ o. is_small_operation o ≡ true) }
+    requires numbered { IfSome (slice_get held.old.operations.items 0) (λ o. is_numbered_operation world.now o ≡ true) }
     requires number { held.old.submitted + 1 < 2 ^ 64 }
     ensures batch { IfOk result (λ batch. IfSome (slice_get held.old.operations.items 0) (λ o. batch ≡ batch_by world.now queue.0 (held.old.submitted + 1) held.old.last_signal o)) }
     ensures room { OnOk result (1 ≤ held.new.signals.spare) }
@@ -36,6 +39,7 @@ fn next_batch(
         Some(operation) => batch_of(
             alloc,
             world,
+            numbers,
             queue.0,
             held.submitted + 1,
             held.last_signal,
@@ -89,7 +93,7 @@ pub(crate) fn worker_step<D: VkDevice>(
 {
     let _events = history.len();
     let held = parts.held.at_mut(queue.0 as usize);
-    let batch = next_batch(alloc, world, held, queue)?;
+    let batch = next_batch(alloc, world, &parts.numbers, held, queue)?;
     device.submit(batch)?;
     count_submitted(held);
     Ok(())

@@ -1,5 +1,5 @@
 -- The names of objects by kind, one more object at a time.
-use Rattle.std.proofs.Common.{ℕ, zero, suc, sym, ap, ◌≡◌, ◌+◌, ◌<◌, ◌≤◌, ◌∙◌, List, [], ◌∷◌, ◌++◌, length, drop, drop-cons, get_or, slice_get, Option, Some, None, arith, add-one, refl, append_assoc, append-nil}
+use Rattle.std.proofs.Common.{ℕ, zero, suc, sym, ap, ◌≡◌, ◌+◌, ◌<◌, ◌≤◌, ◌∙◌, List, [], ◌∷◌, ◌++◌, length, drop, drop-cons, get_or, slice_get, Some, None, arith, add-one, refl, append_assoc, append-nil}
 use Rattle.std.proofs.lemmas.List.{drop_all, length-drop}
 use Rattle.trace_text.specs.declared.object.Declared.{Declared}
 use Rattle.trace_text.specs.declared.object.Declared.TheVariants.{Queue, Fence, Buffer, Allocator, List as list}
@@ -41,16 +41,24 @@ known_end known all ns ds i past e = by_names (drop i ns) (rw (drop_all i ds pas
     by_names [] e = sym (none_left known []) ∙ e
     by_names (n ∷ more) e = sym (none_left known []) ∙ e
 
-drops_some : {A : Type 0} (xs : List A) (i : ℕ) (x : A) → slice_get xs i ≡ Some x → drop i xs ≡ x ∷ drop (suc i) xs
+-- what is left from a place on, by the item of the place
+pub drops_some : {A : Type 0} (xs : List A) (i : ℕ) (x : A) → slice_get xs i ≡ Some x → drop i xs ≡ x ∷ drop (suc i) xs
 drops_some [] i x e = cc
 drops_some (y ∷ xs) zero x e = cc
 drops_some (y ∷ xs) (suc i) x e = drops_some xs i x e
 
-drops_none : {A : Type 0} (xs : List A) (i : ℕ) → slice_get xs i ≡ None → drop i xs ≡ []
+pub drops_none : {A : Type 0} (xs : List A) (i : ℕ) → slice_get xs i ≡ None → drop i xs ≡ []
 drops_none [] zero e = refl
 drops_none [] (suc i) e = refl
 drops_none (y ∷ xs) zero e = cc
 drops_none (y ∷ xs) (suc i) e = drops_none xs i e
+
+-- nor is anything left from the next place on
+pub drops_none_next : {A : Type 0} (xs : List A) (i : ℕ) → slice_get xs i ≡ None → drop (i + 1) xs ≡ []
+drops_none_next xs i e = drop_all (i + 1) xs (omega (arith, ends xs i (drops_none xs i e)))
+  where
+    ends : {A : Type 0} (xs : List A) (k : ℕ) → drop k xs ≡ [] → length xs ≤ k
+    ends xs k e = omega (arith, length-drop k xs, ap length e)
 
 -- an object at a place has a name
 pub known_some : (known : KnownNames) (ns : List (List ℕ)) (ds : List Declared) (i : ℕ) (n : List ℕ) (d : Declared) → i < length ds →
@@ -64,9 +72,5 @@ known_some known ns ds i n d below named =
 pub known_none : (known : KnownNames) (ns : List (List ℕ)) (ds : List Declared) (i : ℕ) → slice_get ns i ≡ None →
     joined known (known_names (drop (i + 1) ns) (drop (i + 1) ds)) ≡ joined known (known_names (drop i ns) (drop i ds))
 known_none known ns ds i unnamed =
-    let none : drop i ns ≡ [] = drops_none ns i unnamed in
-    let none_next : drop (i + 1) ns ≡ [] = drop_all (i + 1) ns (omega (arith, ends ns i none)) in
-    rw (none, none_next) (none_left known (drop (i + 1) ds) ∙ sym (none_left known (drop i ds)))
-  where
-    ends : (xs : List (List ℕ)) (k : ℕ) → drop k xs ≡ [] → length xs ≤ k
-    ends xs k e = omega (arith, length-drop k xs, ap length e)
+    rw (drops_none ns i unnamed, drops_none_next ns i unnamed)
+    (none_left known (drop (i + 1) ds) ∙ sym (none_left known (drop i ds)))

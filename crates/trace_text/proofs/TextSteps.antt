@@ -1,9 +1,9 @@
 -- Reading a text, one line at a time.
-use Rattle.std.proofs.Common.{ℕ, ◌≡◌, ◌+◌, ◌-◌, ◌≤◌, ◌∙◌, Bool, true, false, List, [], ◌∷◌, ◌++◌, length, Result, Ok, Err, eqb, arith, refl, ap}
+use Rattle.std.proofs.Common.{ℕ, ◌≡◌, ◌+◌, ◌-◌, ◌≤◌, ◌∙◌, Bool, true, false, List, [], ◌∷◌, length, Result, Ok, Err, eqb, arith, refl, ap}
 use Rattle.std.specs.List.{slice_split, onto_first}
 use Rattle.std.proofs.lemmas.List.{length-append}
 use Rattle.std.proofs.lemmas.List.Splits.{slice_split-cons_yes, slice_split-cons_no}
-use Rattle.trace_words.specs.Cut.{CutsOff, pieces_at}
+use Rattle.trace_words.specs.Cut.{CutsOff}
 use Rattle.trace_words.specs.Lines.{pieces_of}
 use Rattle.trace_text.specs.declared.line_fault.LineFault.{LineFault}
 use Rattle.trace_text.specs.declared.line_fault.LineFault.TheVariants.{Refused, Memory}
@@ -13,16 +13,16 @@ use Rattle.trace_text.specs.Gives.{Leaves, Answers, fault_at}
 use Rattle.trace_text.specs.Texts.{with_line, with_last, sized, at_line, pieces_from}
 
 -- a list of pieces has a first one
-record HasFirst (xs : List (List ℕ)) : Type 0 where
-  first : List ℕ
-  others : List (List ℕ)
-  is : xs ≡ first ∷ others
+pub record HasFirst (xs : List (List ℕ)) : Type 0 where
+  pub first : List ℕ
+  pub others : List (List ℕ)
+  pub is : xs ≡ first ∷ others
 
 onto_has : (x : ℕ) (parts : List (List ℕ)) → HasFirst (onto_first x parts)
 onto_has x [] = record { first = x ∷ []; others = []; is = refl }
 onto_has x (part ∷ parts) = record { first = x ∷ part; others = parts; is = refl }
 
-split_has : (p : ℕ → Bool) (text : List ℕ) → HasFirst (slice_split p text)
+pub split_has : (p : ℕ → Bool) (text : List ℕ) → HasFirst (slice_split p text)
 split_has p [] = record { first = []; others = []; is = refl }
 split_has p (x ∷ xs) = by_test (p x) refl
   where
@@ -33,7 +33,7 @@ split_has p (x ∷ xs) = by_test (p x) refl
         record { first = onto.first; others = onto.others; is = slice_split-cons_no p x xs e ∙ onto.is }
 
 -- a line and those behind it
-stepped : (n at : ℕ) (r : Reading) (line : List ℕ) (more : List (List ℕ)) → HasFirst more →
+pub stepped : (n at : ℕ) (r : Reading) (line : List ℕ) (more : List (List ℕ)) → HasFirst more →
     pieces_from n at r (line ∷ more)
     ≡ at_line n (sized (at + length line + 1) (with_line r line)) (λ s. pieces_from (n + 1) (at + length line + 1) s more)
 unfolding pieces_from
@@ -41,7 +41,7 @@ stepped n at r line [] has = cc (has.is)
 stepped n at r line (next ∷ more) has = refl
 
 -- a line that is cut off, and the text behind it
-cut_step : (n at : ℕ) (r : Reading) (rest line behind : List ℕ) → CutsOff 10 rest line behind →
+pub cut_step : (n at : ℕ) (r : Reading) (rest line behind : List ℕ) → CutsOff 10 rest line behind →
     pieces_from n at r (pieces_of rest)
     ≡ at_line n (sized (at + length line + 1) (with_line r line)) (λ s. pieces_from (n + 1) (at + length line + 1) s (pieces_of behind))
 cut_step n at r rest line behind cut =

@@ -9,7 +9,7 @@ use Rattle.trace_text.specs.declared.status.Cause.TheVariants as cause
 use Rattle.trace_text.specs.declared.reading.Reading.{Reading}
 use Rattle.trace_text.specs.Reading.{opening}
 use Rattle.trace_text.specs.Texts.{with_line, with_last, sized, at_line, pieces_from, reading_of}
-use Rattle.trace_text.specs.Values.{value_in, with_lines, AreLinesOf, IsWritten}
+use Rattle.trace_text.specs.Values.{value_in, with_lines, IsWritten}
 
 -- a choice between a cause and what was found
 found_by : (t : Bool) (c : Cause) (found : Result Reading Cause) (s : Reading) → (if t then Err c else found) ≡ Ok s → found ≡ Ok s
@@ -17,25 +17,25 @@ found_by true c found s e = cc
 found_by false c found s e = e
 
 -- what was found was not past the limit of a text
-sized_ok : (end : ℕ) (found : Result Reading Cause) (s : Reading) → sized end found ≡ Ok s → found ≡ Ok s
+pub sized_ok : (end : ℕ) (found : Result Reading Cause) (s : Reading) → sized end found ≡ Ok s → found ≡ Ok s
 unfolding sized
 sized_ok end found s e = found_by (nat_lt 16777216 end) cause.Size found s e
 
 -- what followed a line that was taken
-record Follows (x : Result Reading Cause) (more : Reading → Result Reading (ℕ × Cause)) (s : Reading) : Type 0 where
-  between : Reading
-  first : x ≡ Ok between
-  then_more : more between ≡ Ok s
+pub record Follows (x : Result Reading Cause) (more : Reading → Result Reading (ℕ × Cause)) (s : Reading) : Type 0 where
+  pub between : Reading
+  pub first : x ≡ Ok between
+  pub then_more : more between ≡ Ok s
 
-at_line_ok : (n : ℕ) (x : Result Reading Cause) (more : Reading → Result Reading (ℕ × Cause)) (s : Reading) →
+pub at_line_ok : (n : ℕ) (x : Result Reading Cause) (more : Reading → Result Reading (ℕ × Cause)) (s : Reading) →
     at_line n x more ≡ Ok s → Follows x more s
 at_line_ok n (Ok u) more s e = record { between = u; first = refl; then_more = e }
 at_line_ok n (Err c) more s e = cc
 
 -- nothing but the end of a text stood behind the last line feed
-record Ends (r s : Reading) : Type 0 where
-  same : r ≡ s
-  ended : s.ended ≡ true
+pub record Ends (r s : Reading) : Type 0 where
+  pub same : r ≡ s
+  pub ended : s.ended ≡ true
 
 last_by : (t u : Bool) (r s : Reading) → (t ≡ true → r.ended ≡ true) →
     (if t then Ok r else (if u then Err cause.Cut else Err cause.Line)) ≡ Ok s → Ends r s
@@ -43,7 +43,7 @@ last_by true u r s ended e = let same : r ≡ s = cc in record { same = same; en
 last_by false true r s ended e = cc
 last_by false false r s ended e = cc
 
-last_ok : (r s : Reading) (piece : List ℕ) → with_last r piece ≡ Ok s → Ends r s
+pub last_ok : (r s : Reading) (piece : List ℕ) → with_last r piece ≡ Ok s → Ends r s
 unfolding with_last
 last_ok r s piece e =
     last_by (length piece == 0 && r.ended) (is_plain piece) r s (λ both. (and_parts (length piece == 0) r.ended both).1) e
@@ -52,9 +52,9 @@ last_ok r s piece e =
 record AreRead (r s : Reading) : Type 0 where
   lines : List (List ℕ)
   reads : with_lines r lines ≡ Ok s
-  ended : s.ended ≡ true
+  pub ended : s.ended ≡ true
 
-cons_read : (line : List ℕ) (lines : List (List ℕ)) (r u s : Reading) → with_line r line ≡ Ok u → with_lines u lines ≡ Ok s →
+pub cons_read : (line : List ℕ) (lines : List (List ℕ)) (r u s : Reading) → with_line r line ≡ Ok u → with_lines u lines ≡ Ok s →
     with_lines r (line ∷ lines) ≡ Ok s
 unfolding with_lines
 cons_read line lines r u s one others = rw one others

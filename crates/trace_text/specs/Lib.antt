@@ -1,7 +1,4 @@
 pub mod Status
-pub mod Words
-pub mod Round
-pub mod Form
 pub mod Names
 pub mod Text
 pub mod Causes
@@ -21,3 +18,9 @@ pub mod Seen
 pub mod WorldOf
 pub mod Known
 pub mod Items
+pub mod Laws
+pub mod Sound
+pub mod Grammar
+pub mod History
+pub mod Left
+pub mod Output

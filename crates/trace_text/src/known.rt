@@ -1,13 +1,13 @@
 //! The names of objects by kind, to print ids.
 
-ghost use Rattle.std.specs.Prelude.{◌≡◌, [], map, slice_get, IfOk, OnOk};
+ghost use Rattle.std.specs.Prelude.{◌≡◌, [], map, drop, slice_get, IfOk, OnOk};
 ghost use Rattle.std.specs.Option.{option_copied};
 ghost use Rattle.trace_text.specs.Known.{with_name, known_names};
 ghost use Rattle.trace_text.specs.Names.{name_at};
 
 use crate::object::Declared;
 use crate::things::Kind;
-use dx_base::{AllocatorId, FenceId, ListId, Memory, QueueId, ResourceId};
+use dx_base::{AllocatorId, FenceId, ListId, Memory, QueueId, ResourceId, Seq};
 use std::alloc::Global;
 use std::marker::Model;
 use trace_words::Name;
@@ -38,10 +38,20 @@ impl<'a> Model for Known<'a> {
 }
 
 /// The name of that place.
-fn nth(names: &[Name], at: usize) -> Option<&Name>
+pub fn nth(names: &[Name], at: usize) -> Option<&Name>
     ensures { option_copied result ≡ slice_get names.now at }
 {
     names.get(at)
+}
+
+/// The names from a place on; none where the place is behind their end.
+pub fn behind(names: &[Name], at: usize) -> &[Name]
+    ensures { result.now ≡ drop at names.now }
+{
+    match names.get(at..) {
+        Some(names) => names,
+        None => &[],
+    }
 }
 
 /// The name of that place; empty where there is none.
@@ -62,6 +72,17 @@ fn known_name<'a>(names: &[&'a Name], at: usize) -> &'a [u8]
         Some(name) => name.as_bytes(),
         None => b"",
     }
+}
+
+/// A copy of names.
+fn copied(alloc: Global, names: &[&Name]) -> Result<Seq<Seq<u8>>, Memory>
+    ensures { IfOk result (λ copy. copy ≡ map (λ n. n.now) names.now) }
+{
+    let mut copy = Seq::new(alloc);
+    for name in names {
+        copy.push(Seq::from_slice(alloc, name.as_bytes())?)?;
+    }
+    Ok(copy)
 }
 
 impl<'a> Known<'a> {
@@ -104,6 +125,20 @@ impl<'a> Known<'a> {
             }
         }
         Ok(known)
+    }
+
+    /// A copy of the names of the queues.
+    pub fn queue_names(&self, alloc: Global) -> Result<Seq<Seq<u8>>, Memory>
+        ensures { IfOk result (λ names. names ≡ self.now.queues) }
+    {
+        copied(alloc, &self.queues)
+    }
+
+    /// A copy of the names of the fences.
+    pub fn fence_names(&self, alloc: Global) -> Result<Seq<Seq<u8>>, Memory>
+        ensures { IfOk result (λ names. names ≡ self.now.fences) }
+    {
+        copied(alloc, &self.fences)
     }
 
     pub fn queue(&self, queue: QueueId) -> &'a [u8]

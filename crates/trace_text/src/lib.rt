@@ -2,24 +2,27 @@
 #![tactic(auto)]
 
 mod append;
-mod data;
 mod declarations;
 mod forms;
+mod history;
 mod item;
 mod joined;
 mod keyword;
 mod known;
 mod later;
+mod laws;
+mod left;
 mod line_fault;
-mod lines;
 mod name_table;
 mod names;
 mod object;
+mod outcome;
 mod parts;
+mod printed_calls;
+mod printed_objects;
+mod printer;
 mod read;
-mod reader;
 mod reading;
-mod round;
 mod scripts;
 mod status;
 #[cfg(test)]
@@ -31,12 +34,17 @@ mod trace;
 mod trace_fault;
 mod world_of;
 
-pub use names::{Ending, Names, names_of_form};
+pub use history::print_history;
+pub use laws::{
+    a_printed_trace_reads_as_it_was, a_trace_says_a_sound_value, only_the_first_bytes_count,
+    what_is_read_is_the_grammar,
+};
 pub use object::Declared;
+pub use outcome::{Outcome, output, refused_of};
+pub use printer::print_trace;
 pub use read::read_trace;
-pub use reader::{ROUNDS, read_world, read_worlds_are_valid};
 pub use status::{Cause, Report, Rule, Status, Verdict};
-pub use text::{output, plain_line};
+pub use text::plain_line;
 pub use trace::Trace;
 pub use trace_fault::TraceFault;
 pub use world_of::world;

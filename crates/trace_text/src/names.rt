@@ -1,10 +1,13 @@
 //! What a run's output speaks of: the names of objects, and what is left at the end of the run.
 
-ghost use Rattle.std.specs.Prelude.{◌≡◌, [], ◌∷◌, IfOk};
-ghost use Rattle.trace_text.specs.Names.{form_names};
+ghost use Rattle.std.specs.Prelude.{◌≡◌, IfOk};
+ghost use Rattle.trace_text.specs.History.{names_from};
 
+use crate::known::{Known, behind};
+use crate::object::Declared;
 use dx_base::{Memory, Seq};
 use std::alloc::Global;
+use trace_words::Name;
 
 /// The names of a trace's objects by kind, each list in the order of numbers.
 #[derive(Debug, PartialEq, Eq, Drop)]
@@ -23,22 +26,25 @@ pub struct Ending {
     pub queues: Seq<u32>,
 }
 
-/// The list of one name.
-fn one_name(alloc: Global, name: &str) -> Result<Seq<Seq<u8>>, Memory>
-    ensures { IfOk result (λ names. names ≡ name.now ∷ []) }
+/// A copy of names.
+fn copied_names(alloc: Global, names: &[Name]) -> Result<Seq<Seq<u8>>, Memory>
+    ensures { IfOk result (λ copy. copy ≡ names.now) }
 {
-    let mut names = Seq::new(alloc);
-    names.push(Seq::from_slice(alloc, name.as_bytes())?)?;
-    Ok(names)
+    let mut copy = Seq::new(alloc);
+    for name in names {
+        copy.push(Seq::from_slice(alloc, name.as_bytes())?)?;
+    }
+    Ok(copy)
 }
 
-/// The names of the one form of trace.
-pub fn names_of_form(alloc: Global) -> Result<Names, Memory>
-    ensures { IfOk result (λ names. names ≡ form_names) }
+/// The names of the threads, queues and fences of a trace, by the names of all its objects and threads.
+pub fn names_of(alloc: Global, names: &[Name], declared: &[Declared]) -> Result<Names, Memory>
+    ensures { IfOk result (λ found. found ≡ names_from names.now declared.now) }
 {
+    let known = Known::of(alloc, names, declared)?;
     Ok(Names {
-        threads: one_name(alloc, "t")?,
-        queues: one_name(alloc, "q")?,
-        fences: one_name(alloc, "f")?,
+        threads: copied_names(alloc, behind(names, declared.len()))?,
+        queues: known.queue_names(alloc)?,
+        fences: known.fence_names(alloc)?,
     })
 }

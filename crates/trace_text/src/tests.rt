@@ -1,6 +1,7 @@
-//! Worked rows: texts of the form and near misses of it, and the output of each status.
+//! Worked rows: texts, near misses, texts at the limits, and what is printed.
 
+mod limits;
 mod misses;
 mod outputs;
+mod printed;
 mod traces;
-mod worlds;

@@ -1,22 +1,21 @@
 //! The text of a run's output.
 
-ghost use Rattle.std.specs.Prelude.{◌≡◌, ◌+◌, ◌^◌, ◌<◌, ◌≤◌, ◌++◌, List, length, flat_map, IfOk, OnOk, IfSome};
+ghost use Rattle.std.specs.Prelude.{◌≡◌, ◌+◌, ◌^◌, ◌<◌, ◌≤◌, ◌++◌, Option, length, flat_map, IfOk, OnOk, IfSome};
 ghost use Rattle.std.specs.Option.{option_copied};
-ghost use Rattle.d3d_machine.specs.declared.events.Event.{Event};
-ghost use Rattle.trace_text.specs.declared.names.Names.{Names};
-ghost use Rattle.trace_text.specs.declared.names.Ending.{Ending};
+ghost use Rattle.trace_text.specs.declared.outcome.Outcome.{Outcome};
 ghost use Rattle.trace_text.specs.Names.{name_at};
-ghost use Rattle.trace_text.specs.Text.{line_text, reply_lines, answer_lines, replies_by, replies_in, call_lines, fence_lines, stalled_lines, usage_line, refused_line, broken_line, torn_line, run_lines, left_lines, output_lines, output_text, plain_text};
+ghost use Rattle.trace_text.specs.Output.{output_of};
+ghost use Rattle.trace_text.specs.Text.{line_text, reply_lines, answer_lines, replies_by, replies_in, call_lines, fence_lines, stalled_lines, usage_line, refused_line, broken_line, torn_line, run_lines, left_lines, output_lines, plain_text};
+ghost use Rattle.trace_text.specs.Values.{Value};
 
 use crate::append::{end_line, end_with_words, put, put_hex, put_next, put_number};
 use crate::names::{Ending, Names};
 use crate::status::{Cause, Rule, Status};
 use d3d_machine::{Event, Reply};
 use dx_base::{Memory, Seq, Torn};
-use std::alloc::Global;
 
 /// The name of that place; empty where there is none.
-fn name_of(names: &[Seq<u8>], at: usize) -> &[u8]
+pub fn name_of(names: &[Seq<u8>], at: usize) -> &[u8]
     ensures { result.now ≡ name_at names.now at }
 {
     match names.get(at) {
@@ -230,7 +229,7 @@ fn put_refused(out: &mut Vec<u8>, line: u64, cause: Cause) -> Result<(), Memory>
 
 /// Appends the output of a run.
 #[tactic(auto, unfolding(crate::specs::Text::output_lines, crate::specs::Text::line_text, crate::specs::Text::rest_of_line))]
-fn put_output(
+pub fn put_output(
     out: &mut Vec<u8>,
     names: &Names,
     status: Status,
@@ -266,30 +265,13 @@ fn put_output(
     }
 }
 
-/// The output of a run: lines for its answered calls by thread, then for Done and Stalled the fences' values, then
-/// what the status says. A number past the names prints as an empty name.
-#[tactic(auto, unfolding(crate::specs::Text::output_text))]
-pub fn output(
-    alloc: Global,
-    names: &Names,
-    status: Status,
-    history: &[Event],
-    ending: &Ending,
-) -> Result<Vec<u8>, Memory>
-    ensures { IfOk result (λ bytes. bytes.items ≡ output_text names.now status history.now ending.now) }
-{
-    let mut out = Vec::new(alloc);
-    put_output(&mut out, names, status, history, ending)?;
-    Ok(out)
-}
-
 /// The whole output where it says nothing of the run and memory may be wanting: of a read fault, and of memory that
 /// was refused.
-#[tactic(auto, unfolding(crate::specs::Text::output_text, crate::specs::Text::output_lines, crate::specs::Text::line_text, crate::specs::Text::rest_of_line))]
+#[tactic(auto, unfolding(crate::specs::Output::output_of, crate::specs::Output::told_run, crate::specs::Text::output_text, crate::specs::Text::output_lines, crate::specs::Text::line_text, crate::specs::Text::rest_of_line))]
 pub fn plain_line(status: Status) -> Option<&'static [u8]>
     ensures value { option_copied result ≡ plain_text status }
-    ensures whole { (names : Names) → (h : List Event) → (ending : Ending) →
-        IfSome result (λ line. line.now ≡ output_text names status h ending) }
+    ensures of_run { (t : Option Value) → (o : Outcome) →
+        IfSome result (λ line. line.now ≡ output_of t (record o { status = status })) }
 {
     match status {
         Status::ReadFault => Some(b"read fault\n"),

@@ -1,6 +1,7 @@
 //! The world of a trace.
 
 ghost use Rattle.std.specs.Prelude.{◌≡◌, [], ◌∷◌, ◌++◌, IfOk, OnOk};
+ghost use Rattle.d3d_machine.specs.World.{IsWorld};
 ghost use Rattle.trace_text.specs.declared.object.Declared.TheVariants as declared_object;
 ghost use Rattle.trace_text.specs.Seen.{seen};
 ghost use Rattle.trace_text.specs.WorldOf.{queue_in, fence_in, resource_in, allocator_in, list_in, objects_of, world_of_value};
@@ -85,9 +86,10 @@ fn copied_scripts(alloc: Global, scripts: &[Seq<Call>]) -> Result<Seq<Seq<Call>>
 }
 
 /// The world of a trace: its objects by kind in order of declaration, where a buffer whose creation is refused is
-/// dead, and the script of each thread.
+/// dead, and the script of each thread. It is a valid world.
 pub fn world(alloc: Global, trace: &Trace) -> Result<World, Memory>
-    ensures { IfOk result (λ w. w ≡ world_of_value (seen trace.now)) }
+    ensures value { IfOk result (λ w. w ≡ world_of_value (seen trace.now)) }
+    ensures valid { IfOk result (λ w. IsWorld w) }
 {
     let mut world = objects(alloc, trace.declared.as_slice())?;
     world.scripts = copied_scripts(alloc, trace.scripts.as_slice())?;

@@ -1,8 +1,10 @@
-//! The output of each status.
+//! The output of calls of several threads, and the statuses that need no memory.
 
-use crate::{Cause, Ending, Names, Rule, Status, names_of_form, output, plain_line};
+use crate::names::{Ending, Names};
+use crate::text::put_output;
+use crate::{Status, plain_line};
 use d3d_machine::{Call, Event, Reply};
-use dx_base::{FenceId, Hresult, Memory, QueueId, Seq, ThreadId, Torn};
+use dx_base::{FenceId, Hresult, Memory, Seq, ThreadId};
 use std::alloc::Global;
 use std::test::Fail;
 
@@ -16,80 +18,6 @@ fn answered(thread: u32, reply: Reply) -> Event {
         },
         reply,
     }
-}
-
-/// Seven calls of one thread that are answered Done, events that are no calls, and an eighth call that reads words.
-fn one_round(alloc: Global) -> Result<Vec<Event>, Memory> {
-    let mut history = Vec::new(alloc);
-    for _ in 0..7 {
-        history.push(answered(0, Reply::Done))?;
-    }
-    history.push(Event::Queue(QueueId(0)))?;
-    history.push(Event::Awake(ThreadId(0)))?;
-    history.push(answered(0, Reply::Words(Seq::from_slice(alloc, &[1, 2, 3, 4])?)))?;
-    Ok(history)
-}
-
-/// An ending with one fence of that value, and thread 0 and queue 0 left.
-fn ending_at(alloc: Global, value: u64) -> Result<Ending, Memory> {
-    Ok(Ending {
-        fences: Seq::from_slice(alloc, &[value])?,
-        threads: Seq::from_slice(alloc, &[0])?,
-        queues: Seq::from_slice(alloc, &[0])?,
-    })
-}
-
-/// What each status prints of that round and that ending.
-fn status_rows() -> [(Status, &'static str); 10] {
-    let torn = Torn {
-        heap: 3,
-        slot: 70000,
-        declared: 0,
-        found: 4_294_967_295,
-    };
-    [
-        (
-            Status::Done,
-            "t 8 words 00000001 00000002 00000003 00000004\nfence f 1\n",
-        ),
-        (
-            Status::Stalled,
-            "t 8 words 00000001 00000002 00000003 00000004\nfence f 1\nstalled thread t\nstalled queue q\n",
-        ),
-        (Status::Usage(3), "usage 3\n"),
-        (
-            Status::Refused(18_446_744_073_709_551_615, Cause::Later),
-            "refused line 18446744073709551615 later\n",
-        ),
-        (Status::ReadFault, "read fault\n"),
-        (Status::WriteFault, ""),
-        (
-            Status::Broken(Rule::B13, 9),
-            "t 8 words 00000001 00000002 00000003 00000004\nbroken B13 9\n",
-        ),
-        (
-            Status::Torn(torn),
-            "t 8 words 00000001 00000002 00000003 00000004\ntorn 3 70000 0 4294967295\n",
-        ),
-        (
-            Status::DeviceLost,
-            "t 8 words 00000001 00000002 00000003 00000004\ndevice lost 887a0005\n",
-        ),
-        (Status::Memory, "out of memory 8007000e\n"),
-    ]
-}
-
-#[test]
-fn each_status_has_its_lines(rt: HostRuntime) -> Result<(), Fail> {
-    let alloc = rt.alloc();
-    let names = names_of_form(alloc)?;
-    let history = one_round(alloc)?;
-    let ending = ending_at(alloc, 1)?;
-    for (status, want) in status_rows() {
-        let found = output(alloc, &names, status, history.as_slice(), &ending)?;
-        assert!(rt; found.as_slice() == want.as_bytes(), "at {want}");
-    }
-    Ok(())
 }
 
 #[test]
@@ -148,7 +76,14 @@ fn calls_count_by_thread_and_threads_print_in_order(rt: HostRuntime) -> Result<(
     };
     let history = three_threads(alloc)?;
     let ending = unnamed_ending(alloc)?;
-    let found = output(alloc, &names, Status::Stalled, history.as_slice(), &ending)?;
+    let mut found = Vec::new(alloc);
+    put_output(
+        &mut found,
+        &names,
+        Status::Stalled,
+        history.as_slice(),
+        &ending,
+    )?;
     assert!(rt; found.as_slice() == three_threads_text().as_bytes());
     Ok(())
 }

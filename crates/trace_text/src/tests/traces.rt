@@ -7,7 +7,7 @@ use std::alloc::Global;
 use std::test::Fail;
 
 /// The line and the cause of a refusal; None where the text is read.
-fn refusal(alloc: Global, text: &str) -> Result<Option<(u64, Cause)>, Memory> {
+pub fn refusal(alloc: Global, text: &str) -> Result<Option<(u64, Cause)>, Memory> {
     match read_trace(alloc, text.as_bytes()) {
         Ok(_) => Ok(None),
         Err(TraceFault::Refused(line, cause)) => Ok(Some((line, cause))),
@@ -16,12 +16,15 @@ fn refusal(alloc: Global, text: &str) -> Result<Option<(u64, Cause)>, Memory> {
 }
 
 /// Texts that are refused, with the line and the cause.
-fn refused_texts() -> [(&'static str, u64, Cause); 22] {
+fn refused_texts() -> [(&'static str, u64, Cause); 25] {
     [
         ("", 1, Cause::Cut),
         ("d3dtrace 1\n", 2, Cause::Cut),
         ("d3dtrace 1\nqueue q dir", 2, Cause::Cut),
+        ("d3dtrace 1\nend", 2, Cause::Cut),
         ("d3dtrace 1\nend\n\n", 3, Cause::After),
+        ("d3dtrace 1\nend\nend\n", 3, Cause::After),
+        ("d3dtrace 1\nend\n ", 3, Cause::Cut),
         ("d3dtrace 1\nfence f\t0\nend\n", 2, Cause::Line),
         ("d3dtrace 1\n# comment\n\nfence f\t0\nend\n", 4, Cause::Line),
         ("d3dtrace 2\nend\n", 1, Cause::Later),

@@ -66,11 +66,11 @@ seat_call-requires-clause-small g c =
 pub returns-in-Some-clause-keeps : goal.returns-in-Some-clause-keeps
 returns-in-Some-clause-keeps g c =
     subst (λ k. Keeps g.D.VkDevice.state g.D.VkDevice.plan_of c.args.world.now k
-    (record { lists = c.args.parts.now.lists; seats = c.wake.new.seats; fences = c.args.parts.now.fences; held = c.args.parts.now.held }) c.args.device.now)
+    (record { lists = c.args.parts.now.lists; seats = c.wake.new.seats; fences = c.args.parts.now.fences; held = c.args.parts.now.held; numbers = c.args.parts.now.numbers }) c.args.device.now)
     (sym (c.push_reserved.ensures ∙ ap (λ xs. xs ++ event.Awake c.args.thread ∷ []) c.reserve.ensures.items))
     (keeps_awake g.D.VkDevice.state g.D.VkDevice.plan_of c.args.world.now c.args.history.now.items c.args.parts.now
-    (record { lists = c.args.parts.now.lists; seats = c.wake.new.seats; fences = c.args.parts.now.fences; held = c.args.parts.now.held })
-    c.args.device.now c.args.thread c.at-seat.result.now c.in-Some.field-0 c.requires.keeps c.at-seat.ensures c.in-Some.is c.requires.ready refl refl refl c.wake.ensures)
+    (record { lists = c.args.parts.now.lists; seats = c.wake.new.seats; fences = c.args.parts.now.fences; held = c.args.parts.now.held; numbers = c.args.parts.now.numbers })
+    c.args.device.now c.args.thread c.at-seat.result.now c.in-Some.field-0 c.requires.keeps c.at-seat.ensures c.in-Some.is c.requires.ready refl refl refl refl c.wake.ensures)
 
 pub returns-in-Some-clause-event : goal.returns-in-Some-clause-event
 returns-in-Some-clause-event g c =
@@ -79,12 +79,13 @@ returns-in-Some-clause-event g c =
 
 pub returns-in-Some-clause-state : goal.returns-in-Some-clause-state
 returns-in-Some-clause-state g c =
-    ap (after_event c.args.world.now c.args.history.now.items (g.D.VkDevice.state c.args.device.now))
+    threading.device_awake g.D.VkDevice.state g.D.VkDevice.plan_of c.args.world.now c.args.history.now.items c.args.parts.now c.args.device.now c.requires.keeps c.args.thread
+    ∙ ap (after_event c.args.world.now c.args.history.now.items (g.D.VkDevice.state c.args.device.now))
     (threading.awake_event g.D.VkDevice.state g.D.VkDevice.plan_of c.args.world.now c.args.history.now.items c.args.parts.now c.args.device.now c.requires.keeps c.args.thread c.at-seat.result.now c.in-Some.field-0 c.at-seat.ensures c.in-Some.is)
 
 pub returns-in_ok-reply-in-None-clause-keeps : goal.returns-in_ok-reply-in-None-clause-keeps
 returns-in_ok-reply-in-None-clause-keeps g c =
-    let x : Parts = record { lists = c.serve.new.parts.lists; seats = c.seat_call.new.seats; fences = c.serve.new.parts.fences; held = c.serve.new.parts.held } in
+    let x : Parts = record { lists = c.serve.new.parts.lists; seats = c.seat_call.new.seats; fences = c.serve.new.parts.fences; held = c.serve.new.parts.held; numbers = c.serve.new.parts.numbers } in
     let call : Call = c.in_ok-call-in-None.call in
     let next : slice_get (script_of c.args.world.now c.args.thread.0) c.at-seat.result.now.made ≡ Some call =
     call_at c.args.world.now c.args.thread.0 c.at-script.result.now c.at-seat.result.now.made c.at.result.now call c.at-script.ensures c.at.ensures c.in_ok-call-in-None.ensures in
@@ -94,7 +95,7 @@ returns-in_ok-reply-in-None-clause-keeps g c =
     ∙ ap (λ r. c.args.history.now.items ++ event.Call c.args.thread call r ∷ []) c.in_ok-reply-in-None.ensures.reply))
     (keeps_call g.D.VkDevice.state g.D.VkDevice.plan_of c.args.world.now c.args.history.now.items c.args.parts.now c.serve.new.parts x c.args.device.now c.serve.new.device
     c.args.thread call c.at-seat.result.now c.requires.keeps c.at-seat.ensures c.in-None.is next served c.in_ok-reply-in-None.ensures.state c.serve.ensures.plan
-    refl refl refl
+    refl refl refl refl
     c.seat_call.ensures)
 
 pub returns-in_ok-reply-in-None-clause-event : goal.returns-in_ok-reply-in-None-clause-event

@@ -4,7 +4,7 @@ use Rattle.d3d_machine.specs.declared.events.Operation.{Operation}
 use Rattle.vk_types.specs.declared.batches.Batch.{Batch}
 use Rattle.vk_port.specs.Journal.{next_number}
 use Rattle.sys_core.specs.declared.parts.Held.{Held}
-use Rattle.sys_core.specs.Batches.{batch_by, is_small_operation}
+use Rattle.sys_core.specs.Batches.{batch_by, is_numbered_operation}
 use Rattle.sys_core.specs.Parts.{Queued, queued, submitted_one}
 use Rattle.sys_core.proofs.WorkerStep as step
 use Rattle.sys_core.proofs.worker.worker_step.Goals as goal
@@ -30,13 +30,13 @@ next_batch-requires-clause-next g c =
     step.next_found g.D.VkDevice.state g.D.VkDevice.plan_of c.args.world.now c.args.history.now.items c.args.parts.now c.args.device.now c.requires.keeps c.args.queue.0 y c.requires.queue c.requires.ready at in
     some_is (slice_get y.operations.items 0) found.0 found.1.head
 
-pub next_batch-requires-clause-small : goal.next_batch-requires-clause-small
-next_batch-requires-clause-small g c =
+pub next_batch-requires-clause-numbered : goal.next_batch-requires-clause-numbered
+next_batch-requires-clause-numbered g c =
     let y : Held = c.at_mut-held.result.now in
     let at : slice_get c.args.parts.now.held c.args.queue.0 ≡ Some y = step.held_at g.D.VkDevice.state g.D.VkDevice.plan_of c.args.world.now c.args.history.now.items c.args.parts.now c.args.device.now c.requires.keeps c.args.queue.0 y c.requires.queue c.at_mut-held.ensures.value in
     let found : (o : Operation) × step.IsNext c.args.world.now c.args.history.now.items (g.D.VkDevice.state c.args.device.now) c.args.queue.0 y o =
     step.next_found g.D.VkDevice.state g.D.VkDevice.plan_of c.args.world.now c.args.history.now.items c.args.parts.now c.args.device.now c.requires.keeps c.args.queue.0 y c.requires.queue c.requires.ready at in
-    for_some (slice_get y.operations.items 0) found.0 (λ o. is_small_operation o ≡ true) found.1.head (step.small_next g.D.VkDevice.state g.D.VkDevice.plan_of c.args.world.now c.args.history.now.items c.args.parts.now c.args.device.now c.requires.keeps found.0 found.1.good)
+    for_some (slice_get y.operations.items 0) found.0 (λ o. is_numbered_operation c.args.world.now o ≡ true) found.1.head (step.numbered_next g.D.VkDevice.state g.D.VkDevice.plan_of c.args.world.now c.args.history.now.items c.args.parts.now c.args.device.now c.requires.keeps found.0 found.1.good)
 
 pub next_batch-requires-clause-number : goal.next_batch-requires-clause-number
 next_batch-requires-clause-number g c =

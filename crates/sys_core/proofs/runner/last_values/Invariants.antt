@@ -1,7 +1,0 @@
--- So far there is the last update of each fence before the place.
-use Rattle.std.proofs.Common.{◌≡◌, map, take}
-use Rattle.sys_core.specs.Values.{last_of}
-use Rattle.sys_core.proofs.runner.last_values.Given as goal
-
-abbrev pub invariant-loop-updates : goal.invariant-loop-updates
-invariant-loop-updates l = l.values ≡ map (λ updates. last_of updates.items) (take l.updates-index l.fences)

@@ -1,0 +1,33 @@
+-- What the step leaves.
+use Rattle.std.proofs.Common.{◌≡◌, sym, subst, true, OnOk, ◌<◌}
+use Rattle.sys_core.specs.Goes.{WasTaken}
+use Rattle.sys_core.specs.Steps.{is_ready_thread, is_ready_worker}
+use Rattle.dx_base.specs.declared.steps.Step.TheVariants as step
+use Rattle.vk_port.specs.Offers.{steps_offered}
+use Rattle.sys_core.proofs.Stepping as stepping
+use Rattle.sys_core.proofs.sys.Sys.thread_step.Goals as goal
+
+pub returns-clause-whole : goal.returns-clause-whole
+returns-clause-whole g c =
+    stepping.whole_of g.D.VkDevice.state g.D.VkDevice.plan_of c.self.inside.world c.self.inside.history.items c.self.inside.parts c.self.inside.device c.self.invariant.keeps
+    c.thread_step.new.history.items (g.D.VkDevice.state c.thread_step.new.device) c.thread_step.result c.self.invariant.whole
+    (stepping.whole_goes g.D.VkDevice.state g.D.VkDevice.plan_of c.self.inside.world c.self.inside.history.items c.self.inside.parts c.self.inside.device c.self.invariant.keeps
+    c.thread_step.new.history.items (g.D.VkDevice.state c.thread_step.new.device) (g.D.VkDevice.rest_of c.self.inside.device) (g.D.VkDevice.rest_of c.thread_step.new.device) c.thread_step.result
+    (stepping.thread_goes g.D.VkDevice.state g.D.VkDevice.plan_of c.self.inside.world c.self.inside.history.items c.self.inside.parts c.self.inside.device c.self.invariant.keeps
+    c.args.thread (subst (λ v. is_ready_thread v.world v.history c.args.thread.0 ≡ true) (sym c.self.view_is) c.requires) c.thread_step.new.history.items (g.D.VkDevice.state c.thread_step.new.device) c.thread_step.result
+    c.thread_step.ensures.event c.thread_step.ensures.state (g.D.VkDevice.rest_of c.self.inside.device) (g.D.VkDevice.rest_of c.thread_step.new.device) c.thread_step.ensures.rest))
+    c.thread_step.ensures.same c.thread_step.ensures.same_state
+
+pub invariant_of-self : goal.invariant_of-self
+invariant_of-self g c = record { keeps = c.thread_step.ensures.keeps; whole = returns-clause-whole g c }
+
+pub returns-clause-taken : goal.returns-clause-taken
+returns-clause-taken g c =
+    subst (λ v. OnOk c.thread_step.result (WasTaken g.D.VkDevice.state g.D.VkDevice.rest_of (step.Thread c.args.thread.0) v (record { world = c.self.inside.world; history = c.thread_step.new.history.items; device = c.thread_step.new.device }))) c.self.view_is
+    (stepping.taken g.D.VkDevice.state g.D.VkDevice.plan_of c.self.inside.world c.self.inside.history.items c.self.inside.parts c.self.inside.device c.self.invariant.keeps
+    g.D.VkDevice.rest_of (step.Thread c.args.thread.0) c.thread_step.new.history.items c.thread_step.new.device c.thread_step.result
+    (stepping.is_thread_step g.D.VkDevice.state g.D.VkDevice.plan_of c.self.inside.world c.self.inside.history.items c.self.inside.parts c.self.inside.device c.self.invariant.keeps
+    c.args.thread.0 c.thread_step.new.history.items c.thread_step.new.device c.thread_step.result c.thread_step.ensures.event c.thread_step.ensures.state)
+    (stepping.thread_goes g.D.VkDevice.state g.D.VkDevice.plan_of c.self.inside.world c.self.inside.history.items c.self.inside.parts c.self.inside.device c.self.invariant.keeps
+    c.args.thread (subst (λ v. is_ready_thread v.world v.history c.args.thread.0 ≡ true) (sym c.self.view_is) c.requires) c.thread_step.new.history.items (g.D.VkDevice.state c.thread_step.new.device) c.thread_step.result
+    c.thread_step.ensures.event c.thread_step.ensures.state (g.D.VkDevice.rest_of c.self.inside.device) (g.D.VkDevice.rest_of c.thread_step.new.device) c.thread_step.ensures.rest))

@@ -1,0 +1,56 @@
+-- The steps of the system by choices.
+use Rattle.std.specs.Prelude.{ℕ, ⊤, ◌≡◌, ◌<◌, ◌+◌, ◌%◌, List, [], ◌∷◌, ◌++◌, length, slice_get, Some, Result, Ok, Err}
+use Rattle.dx_base.specs.declared.steps.Step.{Step}
+use Rattle.dx_base.specs.declared.steps.Step.TheVariants as step
+use Rattle.d3d_machine.specs.declared.world.World.{World}
+use Rattle.d3d_machine.specs.declared.events.Event.{Event}
+use Rattle.d3d_machine.specs.Play.{IsFinished, state_after}
+use Rattle.vk_port.specs.VkState.{VkState}
+use Rattle.sys_core.specs.Keeps.{SysView}
+use Rattle.sys_core.specs.Steps.{enabled_of, thread_event, after_event, submitted_batches, after_submits, IsDeviceStep}
+use Rattle.sys_core.specs.Work.{work}
+
+-- the state of the system: its history, and its device's state; the operations that are called and not submitted are
+-- those of the history whose batches the device does not have
+pub record SysState : Type 0 where
+  pub history : List Event
+  pub device : VkState
+
+-- the state of a system
+abbrev pub state_of : {D : Type 0} → (D → VkState) → SysView D → SysState
+state_of state s = record { history = s.history; device = state s.device }
+
+-- a step leads from one state to another
+abbrev pub IsStep : World → SysState → Step → SysState → Type 0
+IsStep w s (step.Thread t) u =
+    u ≡ record { history = s.history ++ thread_event w s.history s.device t ∷ []; device = after_event w s.history s.device (thread_event w s.history s.device t) }
+IsStep w s (step.Worker q) u = u ≡ record { history = s.history; device = after_submits s.device (submitted_batches w s.history s.device q) }
+IsStep w s (step.Device k) u = IsDeviceStep s.history u.history s.device u.device k
+
+-- one choice: the system has not finished, and the step is the one that can be taken whose place is the choice modulo their
+-- number; `free` is how many free steps the device offers
+pub record Chooses (w : World) (c : ℕ) (s u : SysState) : Type 0 where
+  pub running : IsFinished w (state_after w s.history).desk → ⊥
+  pub free : ℕ
+  pub step : Step
+  pub some : 0 < length (enabled_of w s.history s.device free)
+  pub chosen : slice_get (enabled_of w s.history s.device free) (c % length (enabled_of w s.history s.device free)) ≡ Some step
+  pub goes : IsStep w s step u
+
+-- choices lead from one state to another by these steps
+abbrev pub Goes : World → SysState → List ℕ → List Step → SysState → Type 0
+Goes w s [] [] t = s ≡ t
+Goes w s [] (k ∷ ks) t = ⊥
+Goes w s (c ∷ cs) [] t = ⊥
+Goes w s (c ∷ cs) (k ∷ ks) t = (u : SysState) × (m : Chooses w c s u) × (m.step ≡ k) × Goes w u cs ks t
+
+-- a step of the system was taken
+pub record WasTaken {D : Type 0} (state : D → VkState) (rest_of : D → ℕ) (k : Step) (s u : SysView D) : Type 0 where
+  pub world : u.world ≡ s.world
+  pub goes : IsStep s.world (state_of state s) k (state_of state u)
+  pub falls : work u.world u.history (state u.device) + rest_of u.device < work s.world s.history (state s.device) + rest_of s.device
+
+-- nothing of the system has changed that a step changes
+pub record Stays {D : Type 0} (state : D → VkState) (s u : SysView D) : Type 0 where
+  pub world : u.world ≡ s.world
+  pub state_is : state_of state u ≡ state_of state s

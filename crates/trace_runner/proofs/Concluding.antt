@@ -1,0 +1,264 @@
+-- What a run is at its end, and what a call says of it.
+use Rattle.std.proofs.Common.{ℕ, ◌≡◌, ◌<◌, ◌≤◌, ◌-◌, ◌^◌, ◌∙◌, sym, ap, subst, refl, arith, List, [], length, take, Some, None, Option, ◌⊎◌, inl, inr, IfSome, IfOk, IfErr, OnOk, Result, Ok, Err, Bor}
+use Rattle.std.specs.Option.{option_copied, unwrap_or}
+use Rattle.std.proofs.lemmas.Bool.Decides.{leb_tells}
+use Rattle.dx_base.specs.Faults.{HasRisen}
+use Rattle.dx_base.specs.declared.steps.Step.{Step}
+use Rattle.d3d_machine.specs.declared.world.World.{World}
+use Rattle.d3d_machine.specs.declared.events.Event.{Event}
+use Rattle.d3d_machine.specs.Play.{IsFinished, state_after}
+use Rattle.trace_text.specs.declared.status.Cause.{Cause}
+use Rattle.trace_text.specs.declared.status.Status.{Status}
+use Rattle.trace_text.specs.declared.status.Status.TheVariants as status
+use Rattle.trace_text.specs.declared.outcome.Outcome.{Outcome}
+use Rattle.trace_text.specs.Output.{output_of}
+use Rattle.trace_text.specs.Values.{Value, value_of}
+use Rattle.trace_text.specs.WorldOf.{world_of_value}
+use Rattle.vk_port.specs.VkState.{VkState}
+use Rattle.sys_core.specs.declared.faults.SysFault.{SysFault}
+use Rattle.sys_core.specs.declared.faults.SysFault.TheVariants as fault
+use Rattle.sys_core.specs.declared.over.Over.{Over}
+use Rattle.sys_core.specs.declared.over.Over.TheVariants as over
+use Rattle.sys_core.specs.Ahead.{IsWhole}
+use Rattle.sys_core.specs.Keeps.{IsSystem}
+use Rattle.sys_core.specs.Laws.{CanGoOn}
+use Rattle.sys_core.specs.Over.{IsOver}
+use Rattle.sys_core.specs.Serving.{HasCause, HasFaultCause}
+use Rattle.sys_core.proofs.Progress.{machine_goes}
+use Rattle.trace_text.proofs.TakenBytes.{first_bytes}
+use Rattle.trace_runner.specs.declared.words.Words.{Words}
+use Rattle.trace_runner.specs.Report.{Given, Left, IsRead, AreGood, IsUntouched, IsUnderway, IsThrough, IsDone, IsStalled, IsLeft, Ran, RanTrace, IsRunOf, OfTrace, IsStopped, Says, ended_by, status_at, Ends, Writes, IsWritten, IsReport, IsUsageAt, IsRefusalAt, is_shown, refused_in}
+use Rattle.trace_runner.specs.Steps.{Went}
+use Rattle.trace_runner.specs.Words.{said_by}
+use Rattle.trace_runner.proofs.OfRounds.{rounds_are_calm}
+
+-- a run that took steps
+underway : (w : World) (l : Left) → Went w l.choices l.taken l.history l.device → IsSystem w l.history l.device → IsWhole w l.history l.device → IsUnderway w l
+underway w l went system whole = record {
+  went = went;
+  run = system.run;
+  calm = whole.run;
+  rounds = λ of. whole.run (rounds_are_calm w l.history of system.run);
+  device = system.device;
+}
+
+through : (w : World) (l : Left) (values : List ℕ) → IsUnderway w l → length l.choices ≡ length l.taken → l.fences ≡ values → values ≡ (state_after w l.history).desk.fences → IsThrough w l
+through w l values under equal is are = record { underway = under; equal = equal; values = is ∙ are }
+
+ran_over : (w : World) (l : Left) (free : ℕ) (o : Over) (s : Status) → IsSystem w l.history l.device → IsThrough w l → IsOver w l.history l.device free o → (o ≡ over.Done) ⊎ (o ≡ over.Stalled) →
+    s ≡ status_at o → Ran w l s
+ran_over w l free over.Running s system is far last at = elim last [
+  | inl e ↦ absurd (cc)
+  | inr e ↦ absurd (cc)
+]
+ran_over w l free over.Done s system is far last at = subst (Ran w l) (sym at) (record { through = is; finished = far })
+ran_over w l free over.Stalled s system is far last at =
+    subst (Ran w l) (sym at)
+    (record {
+      through = is;
+      unfinished = far.0;
+      free = free;
+      no_step = far.1;
+      stuck = λ can. omega (arith, far.1, machine_goes w l.history l.device free system.world system.run system.device can);
+    })
+ran_over w l free over.Broken s system is far last at = absurd far
+ran_over w l free over.Torn s system is far last at = absurd far
+
+ran_fault : (w : World) (l : Left) (e : SysFault) (s : Status) → IsUnderway w l → HasFaultCause e l.faults.0 l.faults.1 → s ≡ ended_by e → Ran w l s
+ran_fault w l fault.Memory s under cause at = subst (Ran w l) (sym at) (inr under)
+ran_fault w l fault.Lost s under cause at = subst (Ran w l) (sym at) (cause, inr under)
+
+-- the run is finished or stalled where no step is left, and else cut short
+pub ran_end : (w : World) (l : Left) (free : ℕ) (s : Status) (end : Result Over SysFault) → Went w l.choices l.taken l.history l.device → IsSystem w l.history l.device → IsWhole w l.history l.device →
+    IfOk end (λ o. IsOver w l.history l.device free o) → IfOk end (λ o. (o ≡ over.Done) ⊎ (o ≡ over.Stalled)) → OnOk end (length l.choices ≡ length l.taken) →
+    HasCause l.faults.0 l.faults.1 end → Ends end (state_after w l.history).desk.fences (s, l.fences) → Ran w l s
+ran_end w l free s (Ok o) went system whole far last equal cause (inl done) =
+    ran_over w l free o s system (through w l (state_after w l.history).desk.fences (underway w l went system whole) equal done.1 refl) far last done.0
+ran_end w l free s (Ok o) went system whole far last equal cause (inr memory) = subst (Ran w l) (sym memory) (inr (underway w l went system whole))
+ran_end w l free s (Err e) went system whole far last equal cause at = ran_fault w l e s (underway w l went system whole) cause at
+
+-- a run that was refused before its first step
+pub ran_none : (w : World) (l : Left) (e : SysFault) (s : Status) → IsUntouched l → HasFaultCause e l.faults.0 l.faults.1 → s ≡ ended_by e → Ran w l s
+ran_none w l fault.Memory s none cause at = subst (Ran w l) (sym at) (inl none)
+ran_none w l fault.Lost s none cause at = subst (Ran w l) (sym at) (cause, inl none)
+
+risen_before : (a b now : ℕ) → a ≤ b → HasRisen b now → HasRisen a now
+risen_before a b now less risen = record {
+  kept = omega (arith, less, risen.kept);
+  rose = λ small. by_room small;
+}
+  where
+    by_room : a < 2 ^ 64 - 1 → a < now
+    by_room small = elim (leb_tells b a) [ inl same ↦ omega (arith, less, same.1, risen.rose (omega (arith, small, same.1))) | inr above ↦ omega (arith, above.1, risen.kept) ]
+
+-- a fault has its cause since before, too
+pub fault_since : (e : SysFault) (a b c : ℕ) → a ≤ b → HasFaultCause e b c → HasFaultCause e a c
+fault_since fault.Memory a b c le cause = tt
+fault_since fault.Lost a b c le cause = risen_before a b c le cause
+
+pub cause_since : (r : Result Over SysFault) (a b c : ℕ) → a ≤ b → HasCause b c r → HasCause a c r
+cause_since (Ok o) a b c le cause = tt
+cause_since (Err e) a b c le cause = fault_since e a b c le cause
+
+-- what the first bytes say, the source's text says
+pub given_value : (told : Option (List ℕ)) (bytes text : List ℕ) (r : Result Value (ℕ × Cause)) → text ≡ bytes → IfSome told (λ all. bytes ≡ take 16777217 all) → value_of text ≡ r →
+    IfSome told (λ all. value_of all ≡ r)
+given_value None bytes text r same first says = tt
+given_value (Some all) bytes text r same first says = sym (first_bytes all) ∙ ap value_of (sym first) ∙ ap value_of (sym same) ∙ says
+
+-- what the run of a trace says
+pub says_ran : (g : Given) (t : Option Value) (l : Left) (s : Status) (v : Value) → AreGood g.words → IsRead g.told v → RanTrace v t l s → Says g t l s
+says_ran g None l s v good read ran = subst (Says g None l) (sym ran.0) (inl ran.1)
+says_ran g (Some x) l s v good read ran =
+    let is : IsRunOf g.told l s x = subst (IsRunOf g.told l s) (sym ran.0) (record { read = read; ran = ran.1 }) in
+    by_status s is
+  where
+    by_status : (s : Status) → IsRunOf g.told l s x → Says g (Some x) l s
+    by_status status.Done is = (good, is)
+    by_status status.Stalled is = (good, is)
+    by_status (status.Usage k) is = absurd is.ran
+    by_status (status.Refused n why) is = absurd is.ran
+    by_status status.ReadFault is = absurd is.ran
+    by_status status.WriteFault is = absurd is.ran
+    by_status (status.Broken r n) is = absurd is.ran
+    by_status (status.Torn y) is = absurd is.ran
+    by_status status.DeviceLost is = (good, is)
+    by_status status.Memory is = inr (good, is)
+
+left_of : (w : World) (l : Left) (s : Status) → Ran w l s → IsLeft w l
+left_of w l status.Done is = inr is.through.underway
+left_of w l status.Stalled is = inr is.through.underway
+left_of w l (status.Usage k) is = absurd is
+left_of w l (status.Refused n why) is = absurd is
+left_of w l status.ReadFault is = absurd is
+left_of w l status.WriteFault is = absurd is
+left_of w l (status.Broken r n) is = absurd is
+left_of w l (status.Torn x) is = absurd is
+left_of w l status.DeviceLost is = is.1
+left_of w l status.Memory is = is
+
+cut : (told : Option (List ℕ)) (l : Left) (s : Status) (v : Value) → IsRunOf told l s v → IsRunOf told l status.Memory v
+cut told l s v is = record { read = is.read; ran = left_of (world_of_value v) l s is.ran }
+
+of_cut : (told : Option (List ℕ)) (l : Left) (s : Status) (t : Option Value) → OfTrace (IsRunOf told l s) t → OfTrace (IsRunOf told l status.Memory) t
+of_cut told l s None is = is
+of_cut told l s (Some v) is = cut told l s v is
+
+-- where memory is refused behind a run, the call says so
+says_memory : (g : Given) (t : Option Value) (l : Left) (s : Status) → Says g t l s → Says g t l status.Memory
+says_memory g t l status.Done is = inr (is.0, of_cut g.told l status.Done t is.1)
+says_memory g t l status.Stalled is = inr (is.0, of_cut g.told l status.Stalled t is.1)
+says_memory g t l (status.Usage k) is = inl is.1.untouched
+says_memory g t l (status.Refused n why) is = inl is.1.1.untouched
+says_memory g t l status.ReadFault is = inl is.1.1.untouched
+says_memory g t l status.WriteFault is = absurd is
+says_memory g t l (status.Broken r n) is = absurd is
+says_memory g t l (status.Torn x) is = absurd is
+says_memory g t l status.DeviceLost is = inr (is.0, of_cut g.told l status.DeviceLost t is.1)
+says_memory g t l status.Memory is = is
+
+pub says_meant : (g : Given) (t : Option Value) (l : Left) (was meant : Status) → Says g t l was → (meant ≡ was) ⊎ (meant ≡ status.Memory) → Says g t l meant
+says_meant g t l was meant says (inl same) = subst (Says g t l) (sym same) says
+says_meant g t l was meant says (inr memory) = subst (Says g t l) (sym memory) (says_memory g t l was says)
+
+bad_words : (words : List (List ℕ)) (k : ℕ) → said_by words ≡ Err k → AreGood words → ⊥
+bad_words words k bad good = let e : Err k ≡ Ok good.said = sym bad ∙ good.good in cc
+
+-- where the words are not of the form, the status says so
+usage_meant : (g : Given) (t : Option Value) (l : Left) (k : ℕ) (s : Status) → said_by g.words ≡ Err k → Says g t l s → IsUsageAt k s
+usage_meant g t l k status.Done bad is = absurd (bad_words g.words k bad is.0)
+usage_meant g t l k status.Stalled bad is = absurd (bad_words g.words k bad is.0)
+usage_meant g t l k (status.Usage n) bad is = let e : Err n ≡ Err k = sym is.0 ∙ bad in cc
+usage_meant g t l k (status.Refused n why) bad is = absurd (bad_words g.words k bad is.0)
+usage_meant g t l k status.ReadFault bad is = absurd (bad_words g.words k bad is.0)
+usage_meant g t l k status.WriteFault bad is = absurd is
+usage_meant g t l k (status.Broken r n) bad is = absurd is
+usage_meant g t l k (status.Torn x) bad is = absurd is
+usage_meant g t l k status.DeviceLost bad is = absurd (bad_words g.words k bad is.0)
+usage_meant g t l k status.Memory bad is = tt
+
+written_or : (P : Status → Type 0) (before after : Option (List ℕ)) (sink : ℕ × ℕ) (text : List ℕ) (meant s : Status) → P meant → P status.WriteFault → Writes before after sink text meant s → P s
+written_or P before after sink text meant s here failed (inl whole) = subst P (sym whole.0) here
+written_or P before after sink text meant s here failed (inr part) = subst P (sym part.0) failed
+
+pub usage_of : (g : Given) (sink : ℕ × ℕ) (before after : Option (List ℕ)) (left : List ℕ → Left) (s : Status) → IsReport g sink before after left s → IfErr (said_by g.words) (λ k. IsUsageAt k s)
+usage_of g sink before after left s report = by_words (said_by g.words) refl
+  where
+    by_words : (r : Result Words ℕ) → said_by g.words ≡ r → IfErr r (λ k. IsUsageAt k s)
+    by_words (Ok said) is = tt
+    by_words (Err k) is = written_or (IsUsageAt k) before after sink _ report.meant s (usage_meant g report.trace (left report.fences) k report.meant is report.says) tt report.text
+
+reads_none : (told : Option (List ℕ)) (p : ℕ × Cause) (v : Value) (all : List ℕ) → told ≡ Some all → value_of all ≡ Err p → IsRead told v → ⊥
+reads_none told p v all is refused read =
+    let given : value_of all ≡ Ok v = subst (λ o. IfSome o (λ xs. value_of xs ≡ Ok v)) is read.given in
+    let e : Err p ≡ Ok v = sym refused ∙ given in
+    cc
+
+of_none : (told : Option (List ℕ)) (p : ℕ × Cause) (all : List ℕ) (l : Left) (s : Status) (t : Option Value) → told ≡ Some all → value_of all ≡ Err p → OfTrace (IsRunOf told l s) t → ⊥
+of_none told p all l s None is refused run = run
+of_none told p all l s (Some v) is refused run = reads_none told p v all is refused run.read
+
+-- where the words are of the form and the text is refused, the status says so
+refused_meant : (g : Given) (t : Option Value) (l : Left) (p : ℕ × Cause) (all : List ℕ) (s : Status) → AreGood g.words → g.told ≡ Some all → value_of all ≡ Err p → Says g t l s → IsRefusalAt p s
+refused_meant g t l p all status.Done good told refused is = absurd (of_none g.told p all l status.Done t told refused is.1)
+refused_meant g t l p all status.Stalled good told refused is = absurd (of_none g.told p all l status.Stalled t told refused is.1)
+refused_meant g t l p all (status.Usage k) good told refused is = absurd (bad_words g.words k is.0 good)
+refused_meant g t l p all (status.Refused n why) good told refused is =
+    let here : value_of all ≡ Err (n, why) = subst (λ o. IfSome o (λ xs. value_of xs ≡ Err (n, why))) told is.1.0 in
+    let e : Err (n, why) ≡ Err p = sym here ∙ refused in
+    cc
+refused_meant g t l p all status.ReadFault good told refused is = tt
+refused_meant g t l p all status.WriteFault good told refused is = absurd is
+refused_meant g t l p all (status.Broken r n) good told refused is = absurd is
+refused_meant g t l p all (status.Torn x) good told refused is = absurd is
+refused_meant g t l p all status.DeviceLost good told refused is = absurd (of_none g.told p all l status.DeviceLost t told refused is.1)
+refused_meant g t l p all status.Memory good told refused is = tt
+
+pub refused_of : (g : Given) (sink : ℕ × ℕ) (before after : Option (List ℕ)) (left : List ℕ → Left) (s : Status) → IsReport g sink before after left s →
+    IfOk (said_by g.words) (λ _. IfSome g.told (λ all. IfErr (value_of all) (λ p. IsRefusalAt p s)))
+refused_of g sink before after left s report = by_words (said_by g.words) refl
+  where
+    by_value : (said : Words) → said_by g.words ≡ Ok said → (all : List ℕ) → g.told ≡ Some all → (r : Result Value (ℕ × Cause)) → value_of all ≡ r → IfErr r (λ p. IsRefusalAt p s)
+    by_value said good all told (Ok v) is = tt
+    by_value said good all told (Err p) is =
+        written_or (IsRefusalAt p) before after sink _ report.meant s
+        (refused_meant g report.trace (left report.fences) p all report.meant (record { said = said; good = good }) told is report.says) tt report.text
+
+    by_told : (said : Words) → said_by g.words ≡ Ok said → (o : Option (List ℕ)) → g.told ≡ o → IfSome o (λ all. IfErr (value_of all) (λ p. IsRefusalAt p s))
+    by_told said good None is = tt
+    by_told said good (Some all) is = by_value said good all is (value_of all) refl
+
+    by_words : (r : Result Words ℕ) → said_by g.words ≡ r → IfOk r (λ _. IfSome g.told (λ all. IfErr (value_of all) (λ p. IsRefusalAt p s)))
+    by_words (Ok said) is = by_told said is g.told refl
+    by_words (Err k) is = tt
+
+-- the text that is there
+text_there : (o : Option (Bor (List ℕ))) (d : Bor (List ℕ)) (line text : List ℕ) → option_copied o ≡ Some line → IfSome o (λ x. x.now ≡ text) → (unwrap_or o d).now ≡ text
+text_there None d line text some is = absurd (cc)
+text_there (Some x) d line text some is = is
+
+-- the same, of what was taken
+pub there : (o : Option (Bor (List ℕ))) (x d : Bor (List ℕ)) (line text : List ℕ) → option_copied o ≡ Some line → IfSome o (λ y. y.now ≡ text) → x ≡ unwrap_or o d → x.now ≡ text
+there o x d line text some is taken = ap (λ (y : Bor (List ℕ)). y.now) taken ∙ text_there o d line text some is
+
+-- a refused text, by what the call left
+pub refusal_says : (g : Given) (t : Option Value) (l : Left) (s : Status) (n : ℕ) (why : Cause) → AreGood g.words → IfSome g.told (λ all. value_of all ≡ Err (n, why)) → IsStopped t l →
+    s ≡ status.Refused n why → Says g t l s
+refusal_says g t l s n why good told stopped is = subst (Says g t l) (sym is) (good, (told, stopped))
+
+-- a call whose output is written reports what was written
+pub reported : (g : Given) (sink : ℕ × ℕ) (before after : Option (List ℕ)) (t : Option Value) (l : Left) (o : Outcome) (s : Status) → Says g t l o.status → o.history ≡ l.history →
+    o.fences ≡ l.fences → o.shown ≡ is_shown (said_by g.words) → o.refused ≡ refused_in t → IsWritten sink before after t o s → IsReport g sink before after (λ f. record l { fences = f }) s
+reported g sink before after t l o s says history fences shown refused written =
+    let meant : Status = written.meant in
+    record {
+      trace = t;
+      fences = l.fences;
+      meant = meant;
+      says = says_meant g t l o.status meant says written.same;
+      text =
+          subst (λ x. Writes before after sink (output_of t (record { status = meant; shown = x; history = l.history; refused = refused_in t; fences = l.fences })) meant s) shown
+          (subst (λ x. Writes before after sink (output_of t (record { status = meant; shown = o.shown; history = l.history; refused = x; fences = l.fences })) meant s) refused
+          (subst (λ x. Writes before after sink (output_of t (record { status = meant; shown = o.shown; history = x; refused = o.refused; fences = l.fences })) meant s) history
+          (subst (λ x. Writes before after sink (output_of t (record { status = meant; shown = o.shown; history = o.history; refused = o.refused; fences = x })) meant s) fences written.text)));
+    }

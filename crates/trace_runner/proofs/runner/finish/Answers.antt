@@ -1,0 +1,33 @@
+-- The run is what its last step and its end say.
+use Rattle.std.proofs.Common.{sym, subst}
+use Rattle.trace_runner.specs.Report.{Ran}
+use Rattle.trace_runner.proofs.Concluding.{ran_end}
+use Rattle.trace_runner.proofs.runner.finish.Goals as goal
+
+pub returns : goal.returns
+returns g c before cause =
+    subst (λ d. Ran c.args.sys.world (record {
+      faults = (before, g.D.VkDevice.faults d);
+      choices = c.args.log.now.choices.items;
+      taken = c.args.log.now.taken.items;
+      history = c.into_parts-history.result.0.items;
+      fences = c.ending_of-status.result.1;
+      device = g.D.VkDevice.state d;
+    }) c.ending_of-status.result.0) (sym c.into_parts-history.ensures.device)
+    (subst (λ h. Ran c.args.sys.world (record {
+      faults = (before, g.D.VkDevice.faults c.args.sys.device);
+      choices = c.args.log.now.choices.items;
+      taken = c.args.log.now.taken.items;
+      history = h;
+      fences = c.ending_of-status.result.1;
+      device = g.D.VkDevice.state c.args.sys.device;
+    }) c.ending_of-status.result.0) (sym c.into_parts-history.ensures.history)
+    (ran_end c.args.sys.world (record {
+      faults = (before, g.D.VkDevice.faults c.args.sys.device);
+      choices = c.args.log.now.choices.items;
+      taken = c.args.log.now.taken.items;
+      history = c.args.sys.history;
+      fences = c.ending_of-status.result.1;
+      device = g.D.VkDevice.state c.args.sys.device;
+    }) (g.D.VkDevice.offered c.args.sys.device) c.ending_of-status.result.0 c.args.end c.requires.went c.requires.system c.requires.whole c.requires.over c.requires.last c.requires.equal cause
+    c.ending_of-status.ensures))

@@ -1,0 +1,22 @@
+-- What holds between steps.
+use Rattle.std.proofs.Common.{◌≡◌, ◌≤◌, ◌+◌, length}
+use Rattle.sys_core.specs.Ahead.{IsWhole}
+use Rattle.sys_core.specs.Keeps.{IsSystem}
+use Rattle.sys_core.specs.Work.{work}
+use Rattle.trace_runner.specs.Steps.{Went}
+use Rattle.trace_runner.proofs.steps.take_steps.Given as goal
+
+abbrev pub invariant-loop-sys : goal.invariant-loop-sys
+invariant-loop-sys g l = record {
+  went : Went l.sys.world l.log.choices.items l.log.taken.items l.sys.history (g.D.VkDevice.state l.sys.device);
+  equal : length l.log.choices.items ≡ length l.log.taken.items;
+  world : l.sys.world ≡ l.initial.sys.world;
+  system : IsSystem l.sys.world l.sys.history (g.D.VkDevice.state l.sys.device);
+  whole : IsWhole l.sys.world l.sys.history (g.D.VkDevice.state l.sys.device);
+  given : g.C.Chooser.given l.choices ≡ l.log.choices.items;
+  started : g.C.Chooser.started l.choices ≡ g.C.Chooser.started l.initial.choices;
+  faults : g.D.VkDevice.faults l.initial.sys.device ≤ g.D.VkDevice.faults l.sys.device;
+}
+
+abbrev pub decreases-loop-sys : goal.decreases-loop-sys
+decreases-loop-sys g l = work l.sys.world l.sys.history (g.D.VkDevice.state l.sys.device) + g.D.VkDevice.rest_of l.sys.device

@@ -1,0 +1,59 @@
+-- Worlds of rounds: in each round four words are written, copied and read, and the host waits for the copy before it reads.
+use Rattle.std.specs.Prelude.{ℕ, ◌≡◌, ◌<◌, List, [], ◌∷◌, length, flat_map, Some}
+use Rattle.dx_base.specs.declared.kinds.Home.TheVariants as home
+use Rattle.dx_base.specs.declared.kinds.ListType.TheVariants.{Direct}
+use Rattle.d3d_machine.specs.declared.calls.Call.{Call}
+use Rattle.d3d_machine.specs.declared.calls.Call.TheVariants as call
+use Rattle.d3d_machine.specs.declared.calls.Record.TheVariants.{Copy}
+use Rattle.d3d_machine.specs.declared.world.Resource.TheVariants.{Buffer}
+use Rattle.d3d_machine.specs.declared.world.World.{World}
+
+-- a round: the words that it writes, and the value that it signals
+pub record Round : Type 0 where
+  pub words : List ℕ
+  pub value : ℕ
+
+-- the calls of a round, in order
+unfoldable pub calls_of : Round → List Call
+calls_of r =
+    call.Write (record { 0 = 0 }) 0 r.words
+    ∷ call.Reset (record { 0 = 0 }) (record { 0 = 0 })
+    ∷ call.Recording (record { 0 = 0 }) (Copy (record { 0 = 1 }) 0 (record { 0 = 0 }) 0 16)
+    ∷ call.Close (record { 0 = 0 })
+    ∷ call.Execute (record { 0 = 0 }) ((record { 0 = 0 }) ∷ [])
+    ∷ call.Signal (record { 0 = 0 }) (record { 0 = 0 }) r.value
+    ∷ call.HostWait (record { 0 = 0 }) r.value
+    ∷ call.Read (record { 0 = 1 }) 0 16
+    ∷ []
+
+-- one queue, one fence at 0, a buffer to write and one to read, of four words each, one allocator, two lists, and one
+-- thread with those calls
+abbrev pub world_with : List Call → World
+world_with calls = record {
+  queues = Direct ∷ [];
+  fences = 0 ∷ [];
+  resources = Some (Buffer home.Upload 4) ∷ Some (Buffer home.Readback 4) ∷ [];
+  allocators = Direct ∷ [];
+  lists = Direct ∷ Direct ∷ [];
+  scripts = calls ∷ [];
+}
+
+-- the world whose thread makes the calls of rounds
+abbrev pub world_of_rounds : List Round → World
+world_of_rounds rounds = world_with (flat_map calls_of rounds)
+
+-- a round has a value above that of the round before, and four words
+pub record IsRoundAbove (v : ℕ) (r : Round) : Type 0 where
+  pub above : v < r.value
+  pub four : length r.words ≡ 4
+
+-- each round has four words, and a value above that of the round before; the first round, above that value
+abbrev pub AreRising : ℕ → List Round → Type 0
+AreRising v [] = Unit {0}
+AreRising v (r ∷ rs) = IsRoundAbove v r × AreRising r.value rs
+
+-- a world is that of rounds, whose values rise from 0
+pub record IsOfRounds (w : World) : Type 0 where
+  pub rounds : List Round
+  pub rising : AreRising 0 rounds
+  pub world : world_of_rounds rounds ≡ w

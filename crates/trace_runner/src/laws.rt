@@ -1,0 +1,14 @@
+//! Laws of runs of rounds. The functions do nothing.
+
+ghost use Rattle.trace_runner.specs.Laws.{RoundsAreCalm, RoundsGoOn};
+
+/// After each run of a world of rounds all is finished, or the Direct3D machine can go on.
+pub fn runs_of_rounds_go_on()
+    ensures { RoundsGoOn }
+{}
+
+/// In each run of a world of rounds a buffer is read and written by the host only where no called operation is
+/// incomplete, and each called operation has at most one command.
+pub fn runs_of_rounds_are_calm()
+    ensures { RoundsAreCalm }
+{}

@@ -1,0 +1,14 @@
+//! The whole of a program's run: it reads a trace, runs it by choices, and writes the output.
+#![tactic(auto)]
+
+mod laws;
+mod log;
+mod runner;
+mod steps;
+#[cfg(test)]
+mod tests;
+mod words;
+
+pub use laws::{runs_of_rounds_are_calm, runs_of_rounds_go_on};
+pub use runner::simulate;
+pub use words::{Words, read_words};

@@ -1,4 +1,0 @@
-use Rattle.trace_text.proofs.reader.+push_rounds.Given as goal
-
-abbrev pub decreases-push_rounds : goal.decreases-push_rounds
-decreases-push_rounds l = l.left
