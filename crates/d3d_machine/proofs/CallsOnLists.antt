@@ -40,7 +40,7 @@ either_lists : (r : Option Hresult) (good bad : Desk) → (desk_or r good bad).l
 either_lists None good bad = refl
 either_lists (Some e) good bad = refl
 
-failed_lists : (b : Bool) (l : ℕ) (d : Desk) → (failed_if b l d).lists ≡ failed_lists_if b l d.lists
+pub failed_lists : (b : Bool) (l : ℕ) (d : Desk) → (failed_if b l d).lists ≡ failed_lists_if b l d.lists
 failed_lists true l d = refl
 failed_lists false l d = refl
 

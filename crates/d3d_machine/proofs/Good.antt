@@ -17,9 +17,10 @@ use Rattle.d3d_machine.specs.declared.events.Event.{Event}
 use Rattle.d3d_machine.specs.declared.events.Event.TheVariants as event
 use Rattle.d3d_machine.specs.State.{Desk, State, first_state, list_of, declared_list, is_recording}
 use Rattle.d3d_machine.specs.Replies.{refusal, refuse_if, argument_error, record_error, is_copy}
-use Rattle.d3d_machine.specs.Effects.{recorded, recorded_or, kept_or, closed, failed, begun, gathered, effect, after_refused, failed_if, desk_or, desk_after_operation, dropped, head_of, desk_after, after}
+use Rattle.d3d_machine.specs.Effects.{recorded, recorded_or, kept_or, closed, failed, begun, gathered, effect, after_refused, failed_if, desk_or, dropped, head_of, desk_after, after}
 use Rattle.d3d_machine.specs.Operations.{operation_of, unless_refused, called_by, operations_from, operations}
 use Rattle.d3d_machine.specs.Good.{is_good_record, is_good_command, is_good_list, is_good_operation}
+use Rattle.d3d_machine.proofs.Short.{operation_lists}
 
 no_error : (w : World) (what : Record) → argument_error w what ≡ None → is_good_record w what ≡ true
 no_error w (Copy d doff s soff bytes) none = by_test (is_copy w d.0 doff s.0 soff bytes) none
@@ -79,11 +80,6 @@ refused_good w d (call.Read b o n) good = good
 call_good : (w : World) (r : Option Hresult) (d : Desk) (t : ℕ) (c : Call) → AreGood w d.lists → AreGood w (desk_or r (effect w d t c) (after_refused d c)).lists
 call_good w None d t c good = effect_good w d t c good
 call_good w (Some e) d t c good = refused_good w d c good
-
-operation_lists : (d : Desk) (o : Option Operation) → (desk_after_operation d o).lists ≡ d.lists
-operation_lists d None = refl
-operation_lists d (Some (operation.Execute cs)) = refl
-operation_lists d (Some (operation.Signal f v)) = refl
 
 event_good : (w : World) (d : Desk) (e : Event) → AreGood w d.lists → AreGood w (desk_after w d e).lists
 event_good w d (event.Call t c r) good = call_good w (refusal w d c) d t.0 c good

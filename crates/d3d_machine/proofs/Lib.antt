@@ -16,3 +16,4 @@ pub mod Served
 pub mod Steps
 pub mod Resources
 pub mod Machines
+pub mod Refusals

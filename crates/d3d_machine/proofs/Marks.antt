@@ -62,7 +62,7 @@ either_fences : (r : Option Hresult) (good bad : Desk) (vs : List ℕ) → good.
 either_fences None good bad vs g b = g
 either_fences (Some e) good bad vs g b = b
 
-failed_fences : (b : Bool) (l : ℕ) (d : Desk) → (failed_if b l d).fences ≡ d.fences
+pub failed_fences : (b : Bool) (l : ℕ) (d : Desk) → (failed_if b l d).fences ≡ d.fences
 failed_fences true l d = refl
 failed_fences false l d = refl
 

@@ -62,7 +62,7 @@ push_step d p q o os is =
 more_by_none : (d : Desk) (q : ℕ) (os : List Operation) → slice_get d.called q ≡ Some os → slice_get d.called q ≡ Some (os ++ [])
 more_by_none d q os is = is ∙ ap (λ xs. Some xs) (sym (append-nil os))
 
-failed_keeps : (b : Bool) (l : ℕ) (d : Desk) → (failed_if b l d).called ≡ d.called
+pub failed_keeps : (b : Bool) (l : ℕ) (d : Desk) → (failed_if b l d).called ≡ d.called
 failed_keeps true l d = refl
 failed_keeps false l d = refl
 

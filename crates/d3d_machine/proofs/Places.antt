@@ -72,7 +72,7 @@ made_effect w d u (call.Value f) t = refl
 made_effect w d u (call.Write b offset ws) t = refl
 made_effect w d u (call.Read b offset bytes) t = refl
 
-failed_threads : (b : Bool) (l : ℕ) (d : Desk) → (failed_if b l d).threads ≡ d.threads
+pub failed_threads : (b : Bool) (l : ℕ) (d : Desk) → (failed_if b l d).threads ≡ d.threads
 failed_threads true l d = refl
 failed_threads false l d = refl
 

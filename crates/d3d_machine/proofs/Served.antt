@@ -21,11 +21,11 @@ state_is : (d k : Desk) (m n : List (List ℕ)) → d ≡ k → m ≡ n → reco
 state_is d k m n desk memory =
     ap (λ x. let s : State = record { desk = x; memory = m } in s) desk ∙ ap (λ x. let s : State = record { desk = k; memory = x } in s) memory
 
-memory_same : (r : Option Hresult) (m : List (List ℕ)) → memory_or r m m ≡ m
+pub memory_same : (r : Option Hresult) (m : List (List ℕ)) → memory_or r m m ≡ m
 memory_same None m = refl
 memory_same (Some e) m = refl
 
-desk_same : (r : Option Hresult) (d : Desk) → desk_or r d d ≡ d
+pub desk_same : (r : Option Hresult) (d : Desk) → desk_or r d d ≡ d
 desk_same None d = refl
 desk_same (Some e) d = refl
 

@@ -82,7 +82,7 @@ either_short : (r : Option Hresult) (good bad : Desk) (l : ℕ) → Short (list_
 either_short None good bad l g b = g
 either_short (Some e) good bad l g b = b
 
-operation_lists : (d : Desk) (o : Option Operation) → (desk_after_operation d o).lists ≡ d.lists
+pub operation_lists : (d : Desk) (o : Option Operation) → (desk_after_operation d o).lists ≡ d.lists
 operation_lists d None = refl
 operation_lists d (Some (operation.Execute commands)) = refl
 operation_lists d (Some (operation.Signal f v)) = refl

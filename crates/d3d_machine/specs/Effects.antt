@@ -111,9 +111,13 @@ abbrev pub desk_or : Option Hresult → Desk → Desk → Desk
 desk_or None good bad = good
 desk_or (Some e) good bad = bad
 
+-- a thread's place, one call later
+abbrev pub one_call_more : Place → Place
+one_call_more p = record p { made = p.made + 1 }
+
 -- the thread has made one more call
 abbrev pub counted : ℕ → Desk → Desk
-counted t d = record d { threads = changed_at (λ p. record p { made = p.made + 1 }) t d.threads }
+counted t d = record d { threads = changed_at one_call_more t d.threads }
 
 -- the desk after a call
 abbrev pub desk_after_call : World → Desk → ℕ → Call → Desk

@@ -1,14 +1,21 @@
--- Laws of the machine's steps.
-use Rattle.std.specs.Prelude.{◌≡◌, Some}
+-- Laws of the machine's steps and of refused calls.
+use Rattle.std.specs.Prelude.{◌≡◌, ◌++◌, ◌∷◌, [], List, Some}
+use Rattle.dx_base.specs.Lists.{changed_at}
+use Rattle.dx_base.specs.declared.hresult.Hresult.{Hresult}
 use Rattle.dx_base.specs.declared.ids.QueueId.{QueueId}
 use Rattle.dx_base.specs.declared.ids.ThreadId.{ThreadId}
 use Rattle.d3d_machine.specs.declared.world.World.{World}
 use Rattle.d3d_machine.specs.declared.calls.Call.{Call}
+use Rattle.d3d_machine.specs.declared.calls.Call.TheVariants as call
 use Rattle.d3d_machine.specs.declared.calls.Reply.{Reply}
+use Rattle.d3d_machine.specs.declared.calls.Reply.TheVariants as reply
 use Rattle.d3d_machine.specs.declared.events.Event.{Event}
 use Rattle.d3d_machine.specs.declared.events.Event.TheVariants as event
-use Rattle.d3d_machine.specs.State.{State}
-use Rattle.d3d_machine.specs.Play.{May, SameReply}
+use Rattle.d3d_machine.specs.declared.events.Listed.{Listed}
+use Rattle.d3d_machine.specs.State.{State, list_of, is_recording}
+use Rattle.d3d_machine.specs.Effects.{one_call_more}
+use Rattle.d3d_machine.specs.Lists.{failed_lists_if}
+use Rattle.d3d_machine.specs.Play.{May, SameReply, IsRunButWords, state_after}
 use Rattle.d3d_machine.specs.Steps.{thread_step, queue_step}
 
 -- the events of the steps are the events that may come
@@ -18,3 +25,31 @@ pub record StepsMay : Type 0 where
   pub call : (w : World) (s : State) (t : ThreadId) (c : Call) (r : Reply) → May SameReply w s (event.Call t c r) → thread_step w s t ≡ Some (event.Call t c r)
   pub awake : (w : World) (s : State) (t : ThreadId) → May SameReply w s (event.Awake t) → thread_step w s t ≡ Some (event.Awake t)
   pub completion : (w : World) (s : State) (q : QueueId) → May SameReply w s (event.Queue q) → queue_step s q ≡ Some (event.Queue q)
+
+-- the lists after a refused call: they stay, but that a recording list whose close is refused has failed
+abbrev pub lists_after_refused : List Listed → Call → List Listed
+lists_after_refused lists (call.Close l) = failed_lists_if (is_recording (list_of lists l.0)) l.0 lists
+lists_after_refused lists (call.Recording l what) = lists
+lists_after_refused lists (call.Reset l a) = lists
+lists_after_refused lists (call.Execute q ls) = lists
+lists_after_refused lists (call.Signal q f v) = lists
+lists_after_refused lists (call.HostSignal f v) = lists
+lists_after_refused lists (call.HostWait f v) = lists
+lists_after_refused lists (call.Value f) = lists
+lists_after_refused lists (call.Write b offset ws) = lists
+lists_after_refused lists (call.Read b offset bytes) = lists
+
+-- a call of a thread had no effect but its reply: memory, fences and queues are as before, its thread has made one call
+-- more, and the lists are those after a refused call
+pub record HasNoEffect (s u : State) (t : ThreadId) (c : Call) : Type 0 where
+  pub memory : u.memory ≡ s.memory
+  pub fences : u.desk.fences ≡ s.desk.fences
+  pub called : u.desk.called ≡ s.desk.called
+  pub threads : u.desk.threads ≡ changed_at one_call_more t.0 s.desk.threads
+  pub lists : u.desk.lists ≡ lists_after_refused s.desk.lists c
+
+-- in a run, also but for words, a call that is answered by an error has no effect
+abbrev pub RefusedCallsHaveNoEffect : Type 0
+RefusedCallsHaveNoEffect =
+    (w : World) (h : List Event) (t : ThreadId) (c : Call) (e : Hresult) → IsRunButWords w (h ++ event.Call t c (reply.Error e) ∷ []) →
+    HasNoEffect (state_after w h) (state_after w (h ++ event.Call t c (reply.Error e) ∷ [])) t c

@@ -1,10 +1,18 @@
 //! Laws of the machine. The functions do nothing.
 
-ghost use Rattle.d3d_machine.specs.Laws.{StepsMay};
+ghost use Rattle.d3d_machine.specs.Laws.{StepsMay, RefusedCallsHaveNoEffect};
 
 /// The events of the steps are the events that may come: what a thread's or a queue's step gives may come,
 /// and of each thread and each queue nothing else may.
 #[tactic(auto, using(crate::proofs::Steps::steps_may))]
 pub fn the_steps_are_the_events_that_may_come()
     ensures { StepsMay }
+{}
+
+/// In a run, also but for words, a call that is answered by an error leaves memory, fences, queues and waits as before.
+/// Its thread has made one call more, and the lists are as before, but that a recording list whose close is refused has
+/// failed.
+#[tactic(auto, using(crate::proofs::Refusals::refused_calls_have_no_effect))]
+pub fn refused_calls_have_no_effect()
+    ensures { RefusedCallsHaveNoEffect }
 {}

@@ -40,7 +40,7 @@ use Rattle.vk_port.specs.Journal.{of_queue, number_after}
 use Rattle.vk_port.specs.Meaning.{IsEnabled, IsBump}
 use Rattle.vk_port.specs.Valid.{IsValid, Matches}
 use Rattle.vk_port.specs.VkState.{VkState, lane_of, no_lane}
-use Rattle.vk_port.proofs.Falls.{valid_place}
+use Rattle.vk_port.proofs.Falls.{valid_place, unmarked_all}
 use Rattle.vk_port.proofs.Enabled.{enabled_means}
 use Rattle.sys_core.specs.Parts.{desk_of, device_by}
 use Rattle.sys_core.specs.Lowering.{plan_of_world, lowered_commands}
@@ -54,11 +54,12 @@ use Rattle.sys_core.proofs.Holding.{drop_here}
 use Rattle.sys_core.proofs.Buffers.{memory_written}
 use Rattle.sys_core.proofs.Spread.{as_many, device_of_memory}
 use Rattle.sys_core.proofs.Effect.{run_length, lowered_is_effect}
-use Rattle.sys_core.proofs.Undone.{run_append, ahead_first_one, undone_append, all_unmarked, undone_behind}
+use Rattle.sys_core.proofs.Undone.{run_append, ahead_first_one, undone_append, undone_behind}
 use Rattle.sys_core.specs.InOrder.{are_in_order}
 use Rattle.sys_core.proofs.Runnable.{IsNextIn, next_ran}
 use Rattle.sys_core.proofs.Orderly.{order_tail}
 use Rattle.sys_core.proofs.Ahead.{device_within, called_now, ahead_event, IsIdle, quiet_is_idle, idle_words}
+use Rattle.sys_core.proofs.Work.{number_behind}
 
 -- a call that is no host access, or is refused, writes nothing
 stays : (r : Option Hresult) (c : Call) → is_good_access r c ≡ false → (m : List (List ℕ)) → memory_or r (written c m) m ≡ m
@@ -101,15 +102,11 @@ ahead_call w h lists v t c r run device some are quiet is =
           ∙ is.ahead ∙ ap (memory_ahead called) (sym (stays no c none m))
     ])
 
-number_after_last : (n : ℕ) (bs : List Batch) (b : Batch) → number_after n (bs ++ b ∷ []) ≡ b.number + 1
-number_after_last n [] b = refl
-number_after_last n (x ∷ bs) b = number_after_last (x.number + 1) bs b
-
 one_more_submitted : (v : VkState) (b : Batch) → b.queue ≡ 0 → b.number ≡ submitted_of v 0 + 1 → submitted_of (after_submit v b) 0 ≡ submitted_of v 0 + 1
 one_more_submitted v b queue number =
     let all : of_queue 0 (v.journal ++ b ∷ []) ≡ of_queue 0 v.journal ++ b ∷ [] =
     of_queue_append 0 v.journal b ∙ ap (λ q. of_queue 0 v.journal ++ (if (q == 0) then b ∷ [] else [])) queue in
-    ap (λ bs. number_after 0 bs - 1) all ∙ omega (arith, number_after_last 0 (of_queue 0 v.journal) b, number)
+    ap (λ bs. number_after 0 bs - 1) all ∙ omega (arith, number_behind 0 (of_queue 0 v.journal) b, number)
 
 -- the submission of the next operation
 pub ahead_submit : (w : World) (h : List Event) (v : VkState) (b : Batch) (o : Operation) → Matches (plan_of_world w) v → 0 < length v.lanes → slice_get (operations w h 0) (submitted_of v 0) ≡ Some o →
@@ -124,7 +121,7 @@ ahead_submit w h v b o objects some next queue number cs is =
     let lane : lane_of (after_submit v b) 0 ≡ lane_after_submit b (lane_of v 0) =
     ap (λ q. get_or (changed_at (lane_after_submit b) q v.lanes) 0 no_lane) queue ∙ get_or_changed (lane_after_submit b) v.lanes 0 no_lane some in
     let todo : batches_undone (lane_of (after_submit v b) 0).batches ≡ us ++ lowered_commands w o =
-    ap (λ (l : Lane). batches_undone l.batches) lane ∙ undone_append rs (started b) ∙ ap (λ es. us ++ es) (all_unmarked b.commands ∙ cs) in
+    ap (λ (l : Lane). batches_undone l.batches) lane ∙ undone_append rs (started b) ∙ ap (λ es. us ++ es) (unmarked_all b.commands ∙ cs) in
     let words : memory_of w (run_commands (batches_undone (lane_of (after_submit v b) 0).batches) v.words) ≡ memory_after_operation x (Some o) =
     ap (λ es. memory_of w (run_commands es v.words)) todo ∙ ap (memory_of w) (run_append us (lowered_commands w o) v.words)
     ∙ lowered_is_effect w o (run_commands us v.words) (run_length us v.words ∙ as_many w v objects) good in

@@ -31,7 +31,7 @@ use Rattle.vk_port.proofs.Valid.{step_valid}
 use Rattle.vk_port.proofs.Lists.{item_at, get_of_take}
 use Rattle.d3d_machine.proofs.Runs.{run_append, state_after_append}
 use Rattle.dx_base.specs.declared.kinds.ListType.{ListType}
-use Rattle.sys_core.proofs.Seating.{seats_complete, applied_append, update_pushed}
+use Rattle.sys_core.proofs.Seating.{seats_complete, update_pushed}
 use Rattle.sys_core.proofs.Standing.{stands_complete}
 use Rattle.sys_core.proofs.Holding.{held_complete}
 use Rattle.d3d_machine.proofs.Operations.{counter_append}
@@ -52,6 +52,7 @@ use Rattle.sys_core.proofs.Standing.{submitted_is}
 use Rattle.sys_core.proofs.Startup.{begins_of, begins_by, one_queue}
 use Rattle.sys_core.proofs.Holding.{drop_here, slice_get_drop}
 use Rattle.sys_core.proofs.Lowered.{IsBatch, lowered_member, of_queue_member, number_at}
+use Rattle.d3d_machine.proofs.Marks.{applied_append}
 
 drop_long : {A : Type 0} (n : ℕ) (xs ys : List A) → ys ≡ drop n xs → 0 < length ys → (n ≡ length xs - length ys) × (n < length xs)
 drop_long n xs ys is some =

@@ -24,7 +24,7 @@ use Rattle.d3d_machine.specs.Play.{May, SameButWords, state_after}
 use Rattle.d3d_machine.specs.Fences.{update_of, applied_updates, is_met}
 use Rattle.d3d_machine.proofs.Runs.{run_append, state_after_append}
 use Rattle.d3d_machine.proofs.Named.{next_is_named}
-use Rattle.d3d_machine.proofs.Marks.{met_at_call, current_is_last}
+use Rattle.d3d_machine.proofs.Marks.{met_at_call, current_is_last, applied_append}
 use Rattle.vk_port.specs.VkState.{VkState}
 use Rattle.d3d_machine.specs.declared.events.ListState.TheVariants.{Failed}
 use Rattle.sys_core.specs.declared.parts.Seat.{Seat}
@@ -42,7 +42,7 @@ use Rattle.sys_core.specs.Consistent.{AreSeats, AreFences, AreHeld, IsDevice, Is
 use Rattle.sys_core.proofs.Standing.{stands_event}
 use Rattle.sys_core.proofs.Holding.{held_event}
 use Rattle.sys_core.proofs.Buffers.{same_sizes, sizes_written_by}
-use Rattle.sys_core.proofs.Seating.{call_seat, names_a_fence, seats_call, seats_awake, fences_call, applied_append}
+use Rattle.sys_core.proofs.Seating.{call_seat, names_a_fence, seats_call, seats_awake, fences_call}
 use Rattle.sys_core.proofs.Values.{values_are}
 
 -- refusals look at the lists alone
@@ -189,7 +189,7 @@ seats_are w h fences t c r seats are fences_are named =
     subst (AreSeats w (h ++ event.Call t c r ∷ [])) (sym (changed_ext (seat_after fences c) (call_seat w h c) t.0 seats (seat_is w h fences c fences_are named)))
     (seats_call w h t c r seats are (λ f v within. ap (λ k. is_met (applied_updates w h f) k v) (sym (current_is_last w h f)) ∙ met_at_call w h f v within) named)
 
-mapped_some : {A B : Type 0} (f : A → B) (o : Option A) (y : B) → option_map f o ≡ Some y → (x : A) × (o ≡ Some x) × (y ≡ f x)
+pub mapped_some : {A B : Type 0} (f : A → B) (o : Option A) (y : B) → option_map f o ≡ Some y → (x : A) × (o ≡ Some x) × (y ≡ f x)
 mapped_some f None y is = absurd (cc)
 mapped_some f (Some x) y is = (x, refl, grind arith)
 

@@ -1,9 +1,9 @@
 -- All is finished exactly where the system's parts say so.
-use Rattle.std.proofs.Common.{ℕ, zero, suc, ◌≡◌, ◌<◌, ◌≤◌, ◌+◌, ◌-◌, ◌∙◌, sym, ap, subst, refl, arith, List, [], ◌∷◌, length, drop, map, Some, None, Option, Bool, true, false, ◌⊎◌, inl, inr, slice_get}
+use Rattle.std.proofs.Common.{ℕ, zero, suc, ◌≡◌, ◌<◌, ◌≤◌, ◌+◌, ◌-◌, ◌∙◌, sym, ap, subst, refl, arith, List, [], ◌∷◌, length, drop, Some, None, Option, Bool, true, false, inl, inr, slice_get}
 use Rattle.std.proofs.lemmas.Bool.{and_parts, eqb-true, cases_lt}
 use Rattle.std.proofs.lemmas.Bool.Decides.{eqb_tells}
-use Rattle.std.proofs.lemmas.List.{length-map, length-drop}
-use Rattle.std.proofs.lemmas.Option.{slice_get_cases, slice_get-map, slice_get_within}
+use Rattle.std.proofs.lemmas.List.{length-drop}
+use Rattle.std.proofs.lemmas.Option.{slice_get-map}
 use Rattle.std.specs.Option.{option_map}
 use Rattle.std.specs.Prelude.{◌==◌, ◌&&◌}
 use Rattle.dx_base.specs.declared.kinds.ListType.{ListType}
@@ -15,7 +15,6 @@ use Rattle.d3d_machine.specs.Play.{SameButWords, IsFinished, state_after}
 use Rattle.d3d_machine.specs.Operations.{operations, counter}
 use Rattle.d3d_machine.proofs.Operations.{HoldsRest, called_after}
 use Rattle.d3d_machine.proofs.Shape.{run_has_shape}
-use Rattle.vk_types.specs.declared.batches.Batch.{Batch}
 use Rattle.vk_types.specs.declared.plan.DevicePlan.{DevicePlan}
 use Rattle.vk_port.specs.Journal.{of_queue}
 use Rattle.vk_port.specs.VkState.{VkState, counter_of}
@@ -24,10 +23,10 @@ use Rattle.sys_core.specs.declared.parts.Armed.{Armed}
 use Rattle.sys_core.specs.declared.parts.Held.{Held}
 use Rattle.sys_core.specs.declared.parts.Parts.{Parts}
 use Rattle.sys_core.specs.declared.parts.Seat.{Seat}
-use Rattle.sys_core.specs.Consistent.{IsHeld, place_from, waiting_from}
+use Rattle.sys_core.specs.Consistent.{IsHeld, place_from}
 use Rattle.sys_core.specs.Finished.{has_ended_by, has_ended_at, is_empty_at, all_from}
 use Rattle.sys_core.specs.Keeps.{Keeps}
-use Rattle.sys_core.specs.Parts.{queued, updates_in}
+use Rattle.sys_core.specs.Parts.{queued}
 use Rattle.sys_core.specs.Stands.{StandsAt}
 use Rattle.sys_core.specs.Steps.{submitted_of}
 use Rattle.sys_core.proofs.Ahead.{drop_past}

@@ -1,18 +1,17 @@
 -- A command that can run stands behind barriers alone, where batches are in order.
-use Rattle.std.proofs.Common.{ℕ, zero, suc, ◌≡◌, ◌+◌, ◌-◌, ◌∙◌, sym, ap, subst, refl, arith, List, [], ◌∷◌, ◌++◌, length, take, Some, None, Option, Bool, true, false, append-nil, append_assoc, ◌⊎◌, inl, inr, slice_get, slice_set, replicate}
+use Rattle.std.proofs.Common.{ℕ, zero, suc, ◌≡◌, ◌∙◌, sym, ap, subst, refl, arith, List, [], ◌∷◌, ◌++◌, take, Some, Bool, true, false, slice_get}
 use Rattle.std.specs.Prelude.{◌&&◌, ◌||◌, not, if◌then◌else◌}
 use Rattle.std.specs.List.{list_all}
 use Rattle.std.proofs.lemmas.Bool.{and_parts}
-use Rattle.dx_base.specs.Lists.{changed_at}
 use Rattle.vk_types.specs.declared.commands.VkCommand.{VkCommand}
 use Rattle.vk_types.specs.declared.commands.VkCommand.TheVariants.{Barrier, Copy, CopyImage, CopyIn, CopyOut, Clear, Dispatch}
-use Rattle.vk_types.specs.Stages.{meets, copy_stage}
 use Rattle.vk_port.specs.declared.lanes.Running.{Running}
-use Rattle.vk_port.specs.After.{after_command, with_done}
 use Rattle.vk_port.specs.Enabled.{undone, unmarked}
 use Rattle.vk_port.specs.Orders.{orders, can_run}
 use Rattle.sys_core.specs.Ahead.{run_commands, batches_undone}
 use Rattle.sys_core.specs.InOrder.{is_barrier, is_ordinary, holds_copies, has_one_at_most, opens, is_short, is_untouched, is_spent, are_in_order}
+use Rattle.dx_base.proofs.Lists.{all_append}
+use Rattle.d3d_machine.proofs.Named.{all_at}
 
 -- a test of the items of two lists
 pub all_front : {A : Type 0} (p : A → Bool) (xs ys : List A) → list_all p (xs ++ ys) ≡ true → list_all p xs ≡ true
@@ -24,20 +23,6 @@ all_front p (x ∷ xs) ys all =
 pub all_behind : {A : Type 0} (p : A → Bool) (xs ys : List A) → list_all p (xs ++ ys) ≡ true → list_all p ys ≡ true
 all_behind p [] ys all = all
 all_behind p (x ∷ xs) ys all = all_behind p xs ys (and_parts (p x) (list_all p (xs ++ ys)) all).1
-
-pub all_both : {A : Type 0} (p : A → Bool) (xs ys : List A) → list_all p xs ≡ true → list_all p ys ≡ true → list_all p (xs ++ ys) ≡ true
-all_both p [] ys one other = other
-all_both p (x ∷ xs) ys one other =
-    let both : (p x ≡ true) × (list_all p xs ≡ true) = and_parts (p x) (list_all p xs) one in
-    ap (λ t. t && list_all p (xs ++ ys)) both.0 ∙ all_both p xs ys both.1 other
-
--- a test of all items is one of an item
-pub all_at : {A : Type 0} (p : A → Bool) (xs : List A) (i : ℕ) (x : A) → list_all p xs ≡ true → slice_get xs i ≡ Some x → p x ≡ true
-all_at p [] i x all is = absurd (cc)
-all_at p (y ∷ xs) zero x all is =
-    let same : y ≡ x = grind arith in
-    subst (λ z. p z ≡ true) same (and_parts (p y) (list_all p xs) all).0
-all_at p (y ∷ xs) (suc i) x all is = all_at p xs i x (and_parts (p y) (list_all p xs) all).1 is
 
 -- what passes a test of all commands of a batch, also passes one of those that are not done
 pub all_unmarked : (p : VkCommand → Bool) (cs : List VkCommand) (done : List Bool) → list_all p cs ≡ true → list_all p (unmarked cs done) ≡ true
@@ -176,7 +161,7 @@ spent_before (x ∷ rs) (suc place) r order there begun =
     let a : (is_short x.batch.commands ≡ true) × (((is_spent x || list_all is_untouched rs) && are_in_order rs) ≡ true) =
     and_parts (is_short x.batch.commands) ((is_spent x || list_all is_untouched rs) && are_in_order rs) order in
     let b : ((is_spent x || list_all is_untouched rs) ≡ true) × (are_in_order rs ≡ true) = and_parts (is_spent x || list_all is_untouched rs) (are_in_order rs) a.1 in
-    all_both is_barrier (undone x) (batches_undone (take place rs)) (by_kind (is_spent x) refl b.0) (spent_before rs place r b.1 there begun)
+    all_append is_barrier (undone x) (batches_undone (take place rs)) (by_kind (is_spent x) refl b.0) (spent_before rs place r b.1 there begun)
   where
     by_kind : (t : Bool) → is_spent x ≡ t → (t || list_all is_untouched rs) ≡ true → is_spent x ≡ true
     by_kind true is either = is
@@ -192,7 +177,7 @@ all_ordinary (x ∷ rs) order =
     let b : ((is_spent x || list_all is_untouched rs) ≡ true) × (are_in_order rs ≡ true) = and_parts (is_spent x || list_all is_untouched rs) (are_in_order rs) a.1 in
     let c : (opens cs ≡ true) × ((list_all is_ordinary cs && has_one_at_most cs) ≡ true) = and_parts (opens cs) (list_all is_ordinary cs && has_one_at_most cs) a.0 in
     let d : (list_all is_ordinary cs ≡ true) × (has_one_at_most cs ≡ true) = and_parts (list_all is_ordinary cs) (has_one_at_most cs) c.1 in
-    all_both is_ordinary (undone x) (batches_undone rs) (all_unmarked is_ordinary cs x.done d.0) (all_ordinary rs b.1)
+    all_append is_ordinary (undone x) (batches_undone rs) (all_unmarked is_ordinary cs x.done d.0) (all_ordinary rs b.1)
 
 -- a batch of those in order is short
 pub short_at : (rs : List Running) (place : ℕ) (r : Running) → are_in_order rs ≡ true → slice_get rs place ≡ Some r → is_short r.batch.commands ≡ true

@@ -4,7 +4,7 @@ use Rattle.std.proofs.lemmas.Bool.{eqb-true, leb-true}
 use Rattle.std.specs.Prelude.{◌==◌, ◌&&◌, not, nat_le}
 use Rattle.std.proofs.lemmas.Option.{slice_get_within}
 use Rattle.dx_base.specs.Lists.{changed_at}
-use Rattle.dx_base.proofs.Lists.{length_changed}
+use Rattle.dx_base.proofs.Lists.{length_changed, and_both}
 use Rattle.dx_base.specs.declared.hresult.Hresult.TheVariants.{InvalidArg}
 use Rattle.d3d_machine.specs.State.{words_at}
 use Rattle.dx_base.specs.declared.kinds.Home.{Home}
@@ -19,10 +19,6 @@ use Rattle.sys_core.specs.Lowering.{plan_number}
 use Rattle.sys_core.specs.Memory.{memory_of, device_words}
 use Rattle.sys_core.specs.Serving.{HasBuffers}
 use Rattle.sys_core.proofs.Spread.{lives_at, device_of_memory, memory_changed, memory_read}
-
-and_both : (a b : Bool) → (a && b) ≡ true → (a ≡ true) × (b ≡ true)
-and_both true b h = (refl, h)
-and_both false b h = absurd (cc)
 
 not_refused : (b : Bool) → refuse_if (not b) InvalidArg None ≡ None → b ≡ true
 not_refused true h = refl

@@ -35,3 +35,4 @@ pub mod NthStep
 pub mod Finishing
 pub mod Stepping
 pub mod Values
+pub mod Refusing

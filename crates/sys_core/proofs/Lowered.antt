@@ -1,10 +1,10 @@
 -- What each batch of the journal is, by its place in its queue.
-use Rattle.std.proofs.Common.{ℕ, zero, suc, ◌≡◌, ◌+◌, ◌-◌, ◌∙◌, sym, ap, subst, refl, arith, List, [], ◌∷◌, ◌++◌, drop, take, Some, Bool, true, false, inl, inr, cond}
+use Rattle.std.proofs.Common.{ℕ, zero, suc, ◌≡◌, ◌+◌, ◌-◌, ◌∙◌, sym, ap, subst, arith, List, [], ◌∷◌, ◌++◌, drop, take, Some, true, inl, inr, cond}
 use Rattle.std.proofs.lemmas.List.{take-append-drop}
 use Rattle.std.proofs.lemmas.Bool.{eqb-true}
 use Rattle.std.proofs.lemmas.Bool.Decides.{eqb_tells}
 use Rattle.std.specs.List.{slice_get}
-use Rattle.std.specs.Prelude.{◌==◌, ◌&&◌}
+use Rattle.std.specs.Prelude.{◌==◌}
 use Rattle.d3d_machine.specs.declared.world.World.{World}
 use Rattle.d3d_machine.specs.declared.events.Operation.{Operation}
 use Rattle.d3d_machine.specs.declared.events.Event.{Event}
@@ -15,6 +15,7 @@ use Rattle.vk_types.specs.declared.batches.Batch.{Batch}
 use Rattle.vk_port.specs.Journal.{of_queue, are_numbered}
 use Rattle.sys_core.specs.Lowering.{lowered_commands}
 use Rattle.sys_core.specs.Stands.{IsLowered, AreLowered}
+use Rattle.dx_base.proofs.Lists.{and_both}
 
 -- the operations that a history called stay the first ones
 append_first : {A : Type 0} (xs ys zs : List A) (k : ℕ) (x : A) → ((j : ℕ) → slice_get ys j ≡ Some x → slice_get zs j ≡ Some x) →
@@ -73,10 +74,6 @@ of_queue_member q (c ∷ bs) k b is =
       | inl same ↦ at_head q c bs k b goes same.1 (ap (λ t. slice_get (cond t (c ∷ of_queue q bs) (of_queue q bs)) k) (sym same.0) ∙ is)
       | inr other ↦ behind q c bs b (goes k (ap (λ t. slice_get (cond t (c ∷ of_queue q bs) (of_queue q bs)) k) (sym other.0) ∙ is))
     ]
-
-and_both : (a b : Bool) → (a && b) ≡ true → (a ≡ true) × (b ≡ true)
-and_both true b h = (refl, h)
-and_both false b h = absurd (cc)
 
 -- the number of a batch, by its place
 pub number_at : (n : ℕ) (bs : List Batch) (k : ℕ) (b : Batch) → are_numbered n bs ≡ true → slice_get bs k ≡ Some b → b.number ≡ n + k

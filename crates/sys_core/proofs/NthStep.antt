@@ -1,5 +1,5 @@
 -- The step of a place among those that can be taken.
-use Rattle.std.proofs.Common.{ℕ, zero, suc, ◌≡◌, ◌<◌, ◌≤◌, ◌+◌, ◌-◌, ◌^◌, ◌∙◌, sym, ap, subst, refl, arith, List, [], ◌∷◌, ◌++◌, length, map, Some, None, Option, Bool, true, false, min, ◌⊎◌, inl, inr, length-drop}
+use Rattle.std.proofs.Common.{ℕ, zero, suc, ◌≡◌, ◌<◌, ◌≤◌, ◌+◌, ◌-◌, ◌^◌, ◌∙◌, sym, ap, subst, refl, arith, List, [], ◌∷◌, ◌++◌, length, map, Some, None, Option, Bool, true, false, inl, inr, length-drop}
 use Rattle.std.proofs.lemmas.Bool.{cases_lt, lt-ltb, le-ltb}
 use Rattle.std.proofs.lemmas.Bool.Decides.{eqb_tells}
 use Rattle.std.proofs.lemmas.List.{length-map, length-append}
@@ -26,8 +26,8 @@ use Rattle.sys_core.specs.Steps.{is_ready_thread, is_ready_worker, submitted_of,
 use Rattle.sys_core.specs.Consistent.{IsHeld, place_from}
 use Rattle.sys_core.specs.Nth.{ready_at, holds_at}
 use Rattle.sys_core.specs.Keeps.{Keeps, ready_by}
-use Rattle.vk_port.proofs.Enabled.{each_append, each_at}
-use Rattle.sys_core.proofs.Runnable.{each_map, each_if}
+use Rattle.vk_port.proofs.Enabled.{each_append, each_at, each_if}
+use Rattle.sys_core.proofs.Runnable.{each_map}
 use Rattle.sys_core.proofs.Keeping.{ready_is}
 
 -- where a first number passes, its step is the first, else the steps are those of the rest

@@ -18,7 +18,7 @@ use Rattle.vk_port.specs.VkState.{VkState, lane_of, no_lane, first_state as firs
 use Rattle.vk_port.specs.After.{after_submit, lane_after_submit}
 use Rattle.vk_port.proofs.Valid.{first_valid, submit_valid}
 use Rattle.vk_port.proofs.Matching.{first_matches, submit_matches}
-use Rattle.sys_core.specs.Lowering.{plan_of_world, startup, opening_batches}
+use Rattle.sys_core.specs.Lowering.{plan_of_world, startup}
 use Rattle.sys_core.specs.Opened.{opened}
 use Rattle.sys_core.specs.Parts.{Queued, no_queue, opening_seat}
 use Rattle.sys_core.specs.Steps.{after_submits}

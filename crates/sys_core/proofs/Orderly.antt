@@ -1,25 +1,23 @@
 -- The device's batches stay in order, where each called operation has at most one command.
-use Rattle.std.proofs.Common.{ℕ, zero, suc, ◌≡◌, ◌<◌, ◌≤◌, ◌∙◌, sym, ap, subst, refl, arith, List, [], ◌∷◌, ◌++◌, length, drop, Some, None, Option, Bool, true, false, slice_get, get_or, replicate}
+use Rattle.std.proofs.Common.{ℕ, zero, suc, ◌≡◌, ◌<◌, ◌≤◌, ◌∙◌, ap, refl, arith, List, [], ◌∷◌, ◌++◌, length, drop, Bool, true, false, get_or, replicate}
 use Rattle.std.specs.Prelude.{◌&&◌, ◌||◌, not, nat_lt, if◌then◌else◌}
 use Rattle.std.specs.List.{list_all}
 use Rattle.std.proofs.lemmas.Bool.{and_parts, leb-true}
 use Rattle.dx_base.specs.Lists.{changed_at}
-use Rattle.dx_base.proofs.Lists.{get_or_changed}
+use Rattle.dx_base.proofs.Lists.{get_or_changed, all_append}
 use Rattle.d3d_machine.specs.declared.world.World.{World}
 use Rattle.d3d_machine.specs.declared.calls.Record.{Record}
 use Rattle.d3d_machine.specs.declared.calls.Record.TheVariants.{Copy}
-use Rattle.d3d_machine.specs.declared.events.Command.{Command}
 use Rattle.d3d_machine.specs.declared.events.Operation.{Operation}
 use Rattle.d3d_machine.specs.declared.events.Operation.TheVariants.{Execute, Signal}
 use Rattle.vk_types.specs.declared.batches.Batch.{Batch}
 use Rattle.vk_port.specs.declared.lanes.Lane.{Lane}
 use Rattle.vk_port.specs.declared.lanes.Running.{Running}
-use Rattle.vk_port.specs.After.{lane_after_pass, lane_after_bump, lane_after_submit, started, after_submit}
+use Rattle.vk_port.specs.After.{lane_after_submit, started, after_submit}
 use Rattle.vk_port.specs.VkState.{VkState, lane_of, no_lane, first_state}
 use Rattle.sys_core.specs.Lowering.{plan_of_world, startup, opening_batches, lower_record, lowered_commands, leading, trailing}
 use Rattle.sys_core.specs.Steps.{after_submits}
 use Rattle.sys_core.specs.InOrder.{is_single, is_short, is_spent, is_untouched, are_in_order}
-use Rattle.sys_core.proofs.InOrder.{all_both}
 
 -- the commands of an operation of at most one command
 short_record : (w : World) (r : Record) → is_short (leading ∷ lower_record w r ∷ trailing ∷ []) ≡ true
@@ -54,7 +52,7 @@ order_behind (x ∷ rs) r order short none =
   where
     by_kind : (t : Bool) → (t || list_all is_untouched rs) ≡ true → (t || list_all is_untouched (rs ++ r ∷ [])) ≡ true
     by_kind true either = refl
-    by_kind false either = all_both is_untouched rs (r ∷ []) either (ap (λ u. u && true) none)
+    by_kind false either = all_append is_untouched rs (r ∷ []) either (ap (λ u. u && true) none)
 
 -- the submission of a short batch
 pub order_submit : (v : VkState) (b : Batch) → 0 < length v.lanes → b.queue ≡ 0 → is_short b.commands ≡ true → are_in_order (lane_of v 0).batches ≡ true →

@@ -1,8 +1,8 @@
 -- Which command a step of the device runs, and what stands before it.
-use Rattle.std.proofs.Common.{ℕ, zero, suc, ◌≡◌, ◌+◌, ◌-◌, ◌∙◌, sym, ap, subst, refl, arith, List, [], ◌∷◌, ◌++◌, length, take, Some, None, Option, Bool, true, false, append-nil, append_assoc, ◌⊎◌, inl, inr, slice_get, slice_set}
-use Rattle.std.specs.Prelude.{◌&&◌, ◌||◌, not, nat_lt, if◌then◌else◌}
+use Rattle.std.proofs.Common.{ℕ, zero, suc, ◌≡◌, ◌+◌, ◌-◌, ◌∙◌, sym, ap, subst, refl, arith, List, [], ◌∷◌, ◌++◌, take, Some, None, Option, Bool, true, false, append-nil, append_assoc, slice_get, slice_set}
+use Rattle.std.specs.Prelude.{◌&&◌, ◌||◌, nat_lt, if◌then◌else◌}
 use Rattle.std.specs.List.{list_all, AllByRecursion}
-use Rattle.std.proofs.lemmas.Bool.{and_parts, cases_Bool}
+use Rattle.std.proofs.lemmas.Bool.{and_parts}
 use Rattle.dx_base.specs.Lists.{changed_at}
 use Rattle.vk_types.specs.declared.commands.VkCommand.{VkCommand}
 use Rattle.vk_port.specs.declared.lanes.Lane.{Lane}
@@ -11,22 +11,17 @@ use Rattle.vk_port.specs.declared.steps.Stepped.{Stepped}
 use Rattle.vk_port.specs.declared.steps.Stepped.TheVariants.{Passed, Ran, Bumped, Free}
 use Rattle.vk_port.specs.After.{after_command, with_done}
 use Rattle.vk_port.specs.Enabled.{undone, unmarked, reached, all_done, ready_command, batch_commands, lane_commands, ready_pass, passes, commands, ready_bump, bumps}
-use Rattle.vk_port.specs.Orders.{orders, can_run}
-use Rattle.vk_port.proofs.Enabled.{each_append, each_at}
+use Rattle.vk_port.specs.Orders.{can_run}
+use Rattle.vk_port.proofs.Enabled.{each_append, each_at, each_if}
 use Rattle.sys_core.specs.Ahead.{run_commands, batches_undone}
 use Rattle.sys_core.specs.InOrder.{is_barrier, is_ordinary, is_short, opens, has_one_at_most, is_untouched, is_spent, are_in_order}
-use Rattle.sys_core.proofs.Undone.{run_append}
 use Rattle.sys_core.proofs.InOrder as ordering
+use Rattle.dx_base.proofs.Lists.{all_append}
 
 -- a fact of each item, by another
 pub each_map : {X : Type 0} (P Q : X → Type 0) → ((x : X) → P x → Q x) → (xs : List X) → AllByRecursion P xs → AllByRecursion Q xs
 each_map P Q f [] all = tt
 each_map P Q f (x ∷ xs) all = (f x all.0, each_map P Q f xs all.1)
-
--- a fact of an item, where a test holds
-pub each_if : {X : Type 0} (P : X → Type 0) (b : Bool) (x : X) → (b ≡ true → P x) → AllByRecursion P (if b then x ∷ [] else [])
-each_if P true x p = (p refl, tt)
-each_if P false x p = tt
 
 -- a step runs a command of a batch that is not done, before which some are not done, where others of earlier batches are not
 pub record RunsIn (q n k : ℕ) (pre cs : List VkCommand) (done : List Bool) (s : Stepped) : Type 0 where
@@ -254,7 +249,7 @@ module _ (bs : List Running) (is_in_order : are_in_order bs ≡ true) (s : Stepp
       let counts : has_one_at_most r.batch.commands ≡ true =
       (and_parts (list_all is_ordinary r.batch.commands) (has_one_at_most r.batch.commands)
       (and_parts (opens r.batch.commands) (list_all is_ordinary r.batch.commands && has_one_at_most r.batch.commands) short).1).1 in
-      ordering.all_both is_barrier earlier of.runs.before
+      all_append is_barrier earlier of.runs.before
       (ordering.spent_before bs of.place r is_in_order of.there
       (λ none. ordering.untouched_copy earlier r.batch.commands r.done of.runs.before of.runs.after of.runs.command short none of.runs.was command_ordinary copy of.runs.free))
       (ordering.barriers_before of.runs.before of.runs.command of.runs.after copy
@@ -269,7 +264,7 @@ module _ (bs : List Running) (is_in_order : are_in_order bs ≡ true) (s : Stepp
       let all : list_all is_barrier (of.runs.before ++ of.runs.command ∷ of.runs.after) ≡ true = subst (λ ds. list_all is_barrier ds ≡ true) of.runs.was spent in
       let last : list_all is_barrier (of.runs.command ∷ of.runs.after) ≡ true = ordering.all_behind is_barrier of.runs.before (of.runs.command ∷ of.runs.after) all in
       ap (λ i. list_all is_barrier (unmarked r.batch.commands (slice_set r.done i true))) at ∙ ap (list_all is_barrier) of.runs.now
-      ∙ ordering.all_both is_barrier of.runs.before of.runs.after (ordering.all_front is_barrier of.runs.before (of.runs.command ∷ of.runs.after) all)
+      ∙ all_append is_barrier of.runs.before of.runs.after (ordering.all_front is_barrier of.runs.before (of.runs.command ∷ of.runs.after) all)
       (and_parts (is_barrier of.runs.command) (list_all is_barrier of.runs.after) last).1
 
   pub next_in : IsNextIn bs

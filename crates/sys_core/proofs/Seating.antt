@@ -11,7 +11,7 @@ use Rattle.std.specs.Option.{option_map}
 use Rattle.std.specs.Prelude.{if◌then◌else◌, ◌==◌, ◌&&◌, ◌||◌, nat_lt, nat_le}
 use Rattle.dx_base.specs.Lists.{changed_at}
 use Rattle.dx_base.specs.declared.hresult.Hresult.{Hresult}
-use Rattle.dx_base.proofs.Lists.{map_changed, map_alike, get_changed, get_changed_other, length_changed}
+use Rattle.dx_base.proofs.Lists.{map_changed, map_alike, get_changed, get_changed_other, length_changed, and_both, and_of, all_changed}
 use Rattle.d3d_machine.specs.declared.world.World.{World}
 use Rattle.d3d_machine.specs.declared.calls.Call.{Call}
 use Rattle.d3d_machine.specs.declared.calls.Call.TheVariants as call
@@ -20,40 +20,28 @@ use Rattle.d3d_machine.specs.declared.events.Operation.{Operation}
 use Rattle.d3d_machine.specs.declared.events.Operation.TheVariants as operation
 use Rattle.d3d_machine.specs.declared.events.Event.{Event}
 use Rattle.d3d_machine.specs.declared.events.Event.TheVariants as event
-use Rattle.d3d_machine.specs.State.{Place, Desk, State, first_state, list_of, is_recording, value_of}
+use Rattle.d3d_machine.specs.State.{Place, Desk, State, value_of}
 use Rattle.d3d_machine.specs.Replies.{refusal}
-use Rattle.d3d_machine.specs.Effects.{after, after_all, desk_after_call, desk_or, effect, after_refused, failed_if, counted, begins_wait, marked_place, head_of, dropped, desk_after_operation}
+use Rattle.d3d_machine.specs.Effects.{after, after_all, desk_after_call, desk_or, effect, after_refused, counted, begins_wait, marked_place, head_of, dropped, desk_after_operation}
 use Rattle.d3d_machine.specs.Play.{state_after}
 use Rattle.d3d_machine.specs.Fences.{update_of, update_of_call, update_of_operation, updates_from, applied_updates, is_met}
 use Rattle.sys_core.specs.declared.parts.Armed.{Armed}
 use Rattle.sys_core.specs.declared.parts.Seat.{Seat}
 use Rattle.sys_core.specs.Parts.{fences_by}
 use Rattle.sys_core.specs.Consistent.{waiting_from, place_from, is_behind, AreSeats, AreFences}
-
-and_both : (a b : Bool) → (a && b) ≡ true → (a ≡ true) × (b ≡ true)
-and_both true b h = (refl, h)
-and_both false b h = absurd (cc)
-
-and_of : (a b : Bool) → a ≡ true → b ≡ true → (a && b) ≡ true
-and_of a b x y = ap (λ t. t && b) x ∙ y
+use Rattle.d3d_machine.proofs.Runs.{state_after_append}
+use Rattle.d3d_machine.proofs.Marks.{applied_append}
+use Rattle.d3d_machine.proofs.Places.{refused_threads}
 
 after_all_append : (w : World) (s : State) (h : List Event) (e : Event) → after_all w s (h ++ e ∷ []) ≡ after w (after_all w s h) e
 after_all_append w s [] e = refl
 after_all_append w s (d ∷ h) e = after_all_append w (after w s d) h e
-
--- the state of a history that goes on by one event
-pub state_append : (w : World) (h : List Event) (e : Event) → state_after w (h ++ e ∷ []) ≡ after w (state_after w h) e
-state_append w h e = after_all_append w (first_state w) h e
 
 updates_append : (w : World) (s : State) (f : ℕ) (h : List Event) (e : Event) → updates_from w s f (h ++ e ∷ []) ≡ updates_from w s f h ++ update_of (after_all w s h).desk f e
 updates_append w s f [] e = append-nil (update_of s.desk f e)
 updates_append w s f (d ∷ h) e =
     ap (λ us. update_of s.desk f d ++ us) (updates_append w (after w s d) f h e)
     ∙ sym (append_assoc (update_of s.desk f d) (updates_from w (after w s d) f h) (update_of (after_all w (after w s d) h).desk f e))
-
--- the applied updates of a history that goes on by one event
-pub applied_append : (w : World) (h : List Event) (e : Event) (f : ℕ) → applied_updates w (h ++ e ∷ []) f ≡ applied_updates w h f ++ update_of (state_after w h).desk f e
-applied_append w h e f = ap (λ us. value_of (first_state w).desk f ∷ us) (updates_append w (first_state w) f h e)
 
 applied_same : (w : World) (h : List Event) (e : Event) (f : ℕ) → update_of (state_after w h).desk f e ≡ [] → applied_updates w (h ++ e ∷ []) f ≡ applied_updates w h f
 applied_same w h e f none = applied_append w h e f ∙ ap (λ us. applied_updates w h f ++ us) none ∙ append-nil (applied_updates w h f)
@@ -92,22 +80,6 @@ call_place d (call.HostWait f v) p = record { made = p.made + 1; waits = Some (r
 call_place d (call.Value f) p = record p { made = p.made + 1 }
 call_place d (call.Write b o ws) p = record p { made = p.made + 1 }
 call_place d (call.Read b o n) p = record p { made = p.made + 1 }
-
-failed_keeps : (b : Bool) (l : ℕ) (d : Desk) → (failed_if b l d).threads ≡ d.threads
-failed_keeps true l d = refl
-failed_keeps false l d = refl
-
-refused_keeps : (d : Desk) (c : Call) → (after_refused d c).threads ≡ d.threads
-refused_keeps d (call.Recording l what) = refl
-refused_keeps d (call.Close l) = failed_keeps (is_recording (list_of d.lists l.0)) l.0 d
-refused_keeps d (call.Reset l a) = refl
-refused_keeps d (call.Execute p ls) = refl
-refused_keeps d (call.Signal p f v) = refl
-refused_keeps d (call.HostSignal f v) = refl
-refused_keeps d (call.HostWait f v) = refl
-refused_keeps d (call.Value f) = refl
-refused_keeps d (call.Write b offset ws) = refl
-refused_keeps d (call.Read b offset bytes) = refl
 
 map_same : {A : Type 0} (xs : List A) → map (λ x. x) xs ≡ xs
 map_same [] = refl
@@ -148,7 +120,7 @@ update_in f (call.Read b o n) = refl
 plain_step : (r : Option Hresult) (w : World) (d : Desk) (t : ℕ) (c : Call) → (effect w d t c).threads ≡ d.threads →
     (counted t (desk_or r (effect w d t c) (after_refused d c))).threads ≡ changed_at (λ p. record p { made = p.made + 1 }) t (map (λ p. p) d.threads)
 plain_step None w d t c same = ap (changed_at (λ p. record p { made = p.made + 1 }) t) (same ∙ sym (map_same d.threads))
-plain_step (Some e) w d t c same = ap (changed_at (λ p. record p { made = p.made + 1 }) t) (refused_keeps d c ∙ sym (map_same d.threads))
+plain_step (Some e) w d t c same = ap (changed_at (λ p. record p { made = p.made + 1 }) t) (refused_threads d c ∙ sym (map_same d.threads))
 
 -- the threads' places after a call: a host signal meets waits, and the caller's place moves
 pub threads_after_call : (w : World) (d : Desk) (t : ℕ) (c : Call) → (desk_after_call w d t c).threads ≡ changed_at (call_place d c) t (map (marked_by (signal_in c)) d.threads)
@@ -225,15 +197,6 @@ behind_call w h (call.Value f) o named is = is
 behind_call w h (call.Write b n ws) o named is = is
 behind_call w h (call.Read b n k) o named is = is
 
-all_changed : {A : Type 0} (p : A → Bool) (f : A → A) (k : ℕ) (xs : List A) → list_all p xs ≡ true → ((x : A) → p x ≡ true → p (f x) ≡ true) → list_all p (changed_at f k xs) ≡ true
-all_changed p f k [] all keeps = refl
-all_changed p f zero (x ∷ xs) all keeps =
-    let both : (p x ≡ true) × (list_all p xs ≡ true) = and_both (p x) (list_all p xs) all in
-    and_of (p (f x)) (list_all p xs) (keeps x both.0) both.1
-all_changed p f (suc k) (x ∷ xs) all keeps =
-    let both : (p x ≡ true) × (list_all p xs ≡ true) = and_both (p x) (list_all p xs) all in
-    and_of (p x) (list_all p (changed_at f k xs)) both.0 (all_changed p f k xs both.1 keeps)
-
 all_alike : {A : Type 0} (p q : A → Bool) (xs : List A) → ((x : A) → p x ≡ true → q x ≡ true) → list_all p xs ≡ true → list_all q xs ≡ true
 all_alike p q [] keeps all = refl
 all_alike p q (x ∷ xs) keeps all =
@@ -247,7 +210,7 @@ seats_awake w h t seats are =
     let e : Event = event.Awake t in
     let f : Seat → Seat = λ s. record s { waits = None } in
     record {
-      threads = ap (λ (s : State). s.desk.threads) (state_append w h e)
+      threads = ap (λ (s : State). s.desk.threads) (state_after_append w h e)
           ∙ ap (changed_at (λ p. record p { waits = None }) t.0) are.threads
           ∙ sym (map_changed (place_from w h) f (λ p. record p { waits = None }) t.0 seats (λ s. refl))
           ∙ sym (map_alike (place_from w (h ++ e ∷ [])) (place_from w h) (changed_at f t.0 seats) (place_same w h e (λ f. refl)));
@@ -336,7 +299,7 @@ seats_complete w h q seats are =
     let e : Event = event.Queue q in
     let d : Desk = (state_after w h).desk in
     record {
-      threads = ap (λ (s : State). s.desk.threads) (state_append w h e) ∙ threads_complete d (head_of d q.0) q.0 ∙ ap (map (marked_by (head_of d q.0))) are.threads
+      threads = ap (λ (s : State). s.desk.threads) (state_after_append w h e) ∙ threads_complete d (head_of d q.0) q.0 ∙ ap (map (marked_by (head_of d q.0))) are.threads
           ∙ map_map (marked_by (head_of d q.0)) (place_from w h) seats
           ∙ sym (map_alike_on (λ s. is_behind w h s.waits) (place_from w (h ++ e ∷ [])) (λ s. marked_by (head_of d q.0) (place_from w h s)) seats are.behind
           (marked_place_is w h (h ++ e ∷ []) (head_of d q.0) (applied_complete w h q)));
@@ -355,7 +318,7 @@ seats_call w h t c r seats are last named =
     let more : (f : ℕ) → applied_updates w k f ≡ applied_updates w h f ++ update_of_operation f o =
     λ f. applied_append w h e f ∙ ap (λ us. applied_updates w h f ++ us) (update_in f c) in
     record {
-      threads = ap (λ (s : State). s.desk.threads) (state_append w h e) ∙ threads_after_call w d t.0 c
+      threads = ap (λ (s : State). s.desk.threads) (state_after_append w h e) ∙ threads_after_call w d t.0 c
           ∙ ap (λ ps. changed_at (call_place d c) t.0 (map (marked_by o) ps)) are.threads
           ∙ ap (changed_at (call_place d c) t.0) (map_map (marked_by o) (place_from w h) seats
           ∙ sym (map_alike_on (λ s. is_behind w h s.waits) (place_from w k) (λ s. marked_by o (place_from w h s)) seats are.behind (marked_place_is w h k o more)))

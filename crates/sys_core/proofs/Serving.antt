@@ -1,5 +1,5 @@
 -- What the calls on lists do, in the machine's words.
-use Rattle.std.proofs.Common.{ℕ, zero, suc, ◌≡◌, ◌∙◌, sym, ap, refl, List, [], ◌∷◌, map, length, slice_get, Some, None, Option}
+use Rattle.std.proofs.Common.{ℕ, zero, suc, ◌≡◌, ◌∙◌, sym, ap, refl, List, [], ◌∷◌, map, length, slice_get, Some, None}
 use Rattle.dx_base.specs.declared.ids.ListId.{ListId}
 use Rattle.dx_base.specs.declared.ids.QueueId.{QueueId}
 use Rattle.dx_base.specs.declared.ids.AllocatorId.{AllocatorId}
@@ -21,6 +21,7 @@ use Rattle.sys_core.specs.Memory.{memory_of, device_words}
 use Rattle.sys_core.specs.Serving.{HasBuffers}
 use Rattle.sys_core.specs.Values.{last_of}
 use Rattle.sys_core.proofs.Spread.{device_of_memory}
+use Rattle.d3d_machine.proofs.Served.{memory_same}
 
 pub record_lists_by : (w : World) (lists : List Listed) (l : ListId) (what : Record) → lists_by w lists (call.Recording l what) ≡ lists_after_record w lists l.0 what
 record_lists_by w lists l what = record_lists w (desk_of lists) 0 l what
@@ -33,10 +34,6 @@ reset_lists_by w lists l a = reset_lists w (desk_of lists) 0 l a
 
 pub execute_lists_by : (w : World) (lists : List Listed) (q : QueueId) (ls : List ListId) → lists_by w lists (call.Execute q ls) ≡ lists
 execute_lists_by w lists q ls = execute_lists w (desk_of lists) 0 q ls
-
-memory_same : (r : Option Hresult) (m : List (List ℕ)) → memory_or r m m ≡ m
-memory_same None m = refl
-memory_same (Some e) m = refl
 
 -- a call that writes no words leaves the device
 pub device_stays : (w : World) (lists : List Listed) (v : VkState) (c : Call) → HasBuffers w v → written c (memory_of w v.words) ≡ memory_of w v.words → device_by w lists v c ≡ v

@@ -22,6 +22,7 @@ use Rattle.sys_core.specs.Lowering.{startup, opening_batches, lowered}
 use Rattle.sys_core.specs.Stands.{IsLowered, AreLowered, StandsAt, Stands}
 use Rattle.sys_core.specs.Steps.{submitted_of}
 use Rattle.sys_core.proofs.Startup.{begins_of}
+use Rattle.dx_base.proofs.Lists.{and_both}
 
 take_all : {A : Type 0} (xs : List A) → take (length xs) xs ≡ xs
 take_all [] = refl
@@ -64,10 +65,6 @@ pub of_queue_append : (q : ℕ) (bs : List Batch) (b : Batch) → of_queue q (bs
 of_queue_append q [] b = refl
 of_queue_append q (c ∷ bs) b =
     ap (λ zs. cond (c.queue == q) (c ∷ zs) zs) (of_queue_append q bs b) ∙ cond_cons (c.queue == q) c (of_queue q bs) (if (b.queue == q) then b ∷ [] else [])
-
-and_both : (a b : Bool) → (a && b) ≡ true → (a ≡ true) × (b ≡ true)
-and_both true b h = (refl, h)
-and_both false b h = absurd (cc)
 
 -- the number behind batches that are numbered without a gap
 pub number_after_is : (n : ℕ) (bs : List Batch) → are_numbered n bs ≡ true → number_after n bs ≡ n + length bs

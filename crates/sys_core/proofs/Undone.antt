@@ -1,17 +1,12 @@
 -- What the commands that are not done make of the words.
-use Rattle.std.proofs.Common.{ℕ, zero, suc, ◌≡◌, ◌+◌, ◌-◌, ◌∙◌, sym, ap, subst, refl, arith, List, [], ◌∷◌, ◌++◌, length, drop, take, Some, None, Option, Bool, true, false, append-nil, append_assoc, ◌⊎◌, inl, inr, slice_get, slice_set, replicate}
-use Rattle.std.specs.Prelude.{◌&&◌, nat_lt, if◌then◌else◌}
+use Rattle.std.proofs.Common.{ℕ, ◌≡◌, ◌∙◌, sym, ap, subst, refl, arith, List, [], ◌∷◌, ◌++◌, drop, Some, Bool, true, false, append-nil, append_assoc, slice_get}
 use Rattle.std.specs.List.{list_all}
-use Rattle.dx_base.specs.Lists.{changed_at}
 use Rattle.d3d_machine.specs.declared.events.Operation.{Operation}
 use Rattle.d3d_machine.specs.Effects.{memory_after_operation}
 use Rattle.vk_types.specs.declared.commands.VkCommand.{VkCommand}
-use Rattle.vk_port.specs.declared.lanes.Lane.{Lane}
 use Rattle.vk_port.specs.declared.lanes.Running.{Running}
-use Rattle.vk_port.specs.declared.steps.Stepped.{Stepped}
-use Rattle.vk_port.specs.declared.steps.Stepped.TheVariants.{Passed, Ran, Bumped}
-use Rattle.vk_port.specs.After.{after_command, with_done}
-use Rattle.vk_port.specs.Enabled.{undone, unmarked, reached, all_done, batch_commands, lane_commands, passes, commands, bumps}
+use Rattle.vk_port.specs.After.{after_command}
+use Rattle.vk_port.specs.Enabled.{undone, unmarked, all_done}
 use Rattle.sys_core.specs.Ahead.{run_commands, batches_undone, memory_ahead}
 
 -- commands in two lists
@@ -33,11 +28,6 @@ ahead_first_one (o ∷ os) m = refl
 pub undone_append : (rs : List Running) (r : Running) → batches_undone (rs ++ r ∷ []) ≡ batches_undone rs ++ undone r
 undone_append [] r = append-nil (undone r)
 undone_append (x ∷ rs) r = ap (λ cs. undone x ++ cs) (undone_append rs r) ∙ sym (append_assoc (undone x) (batches_undone rs) (undone r))
-
--- all commands of a batch are left at first
-pub all_unmarked : (cs : List VkCommand) → unmarked cs (replicate (length cs) false) ≡ cs
-all_unmarked [] = refl
-all_unmarked (c ∷ cs) = ap (λ es. c ∷ es) (all_unmarked cs)
 
 -- where all commands of a batch are marked, none is left
 pub none_unmarked : (cs : List VkCommand) (done : List Bool) → list_all (λ mark. mark) done ≡ true → unmarked cs done ≡ []

@@ -41,9 +41,10 @@ use Rattle.sys_core.proofs.Buffers.{same_sizes, memory_written}
 use Rattle.sys_core.proofs.Ahead.{device_within, called_now, drop_past, ahead_first, ahead_awake, idle_words}
 use Rattle.sys_core.proofs.NoQueue.{no_queue_event, no_queue_idle, quiet_words}
 use Rattle.sys_core.specs.InOrder.{is_single, is_short}
-use Rattle.sys_core.proofs.InOrder.{all_front, all_at}
+use Rattle.sys_core.proofs.InOrder.{all_front}
 use Rattle.sys_core.proofs.Orderly.{lowered_is_short, order_first, order_submit}
 use Rattle.sys_core.proofs.AheadSteps.{ahead_call, ahead_submit, StaysAhead, ahead_step, at_first}
+use Rattle.d3d_machine.proofs.Named.{all_at}
 
 quiet_from_append : (w : World) (s : State) (h : List Event) (e : Event) → AreQuietFrom w s h → ((is_host_access w (after_all w s h) e ≡ true) → IsQuiet (after_all w s h)) →
     AreQuietFrom w s (h ++ e ∷ [])

@@ -319,7 +319,7 @@ awake_falls w h v t x waits =
     threads_changed woken_place w.scripts d.threads t.0 1 0 inside placed (omega (arith, ap wait_work waits)) in
     omega (arith, ap (threads_work w.scripts) threads, less, held_quiet w h (event.Awake t) v v (λ q. refl) refl)
 
-number_behind : (n : ℕ) (bs : List Batch) (b : Batch) → number_after n (bs ++ b ∷ []) ≡ b.number + 1
+pub number_behind : (n : ℕ) (bs : List Batch) (b : Batch) → number_after n (bs ++ b ∷ []) ≡ b.number + 1
 number_behind n [] b = refl
 number_behind n (c ∷ bs) b = number_behind (c.number + 1) bs b
 

@@ -1,10 +1,9 @@
 -- The system stays consistent when an operation's batch is submitted.
-use Rattle.std.proofs.Common.{ℕ, ◌≡◌, ◌<◌, ◌≤◌, ◌+◌, ◌-◌, ◌∙◌, sym, ap, subst, refl, arith, List, [], ◌∷◌, ◌++◌, length, take, Some, None, Option, Bool, true, false, append-nil, length-append, get_or, inl, inr, cond}
+use Rattle.std.proofs.Common.{ℕ, ◌≡◌, ◌<◌, ◌≤◌, ◌+◌, ◌-◌, ◌∙◌, sym, ap, subst, refl, arith, List, [], ◌∷◌, ◌++◌, length, take, Some, Bool, true, false, append-nil, length-append, get_or, inl, inr, cond}
 use Rattle.std.proofs.lemmas.Bool.{lt-ltb, ltb-true}
 use Rattle.std.proofs.lemmas.Bool.Decides.{eqb_tells}
 use Rattle.std.proofs.lemmas.Option.{slice_get_within}
 use Rattle.std.specs.List.{slice_get, list_all}
-use Rattle.std.specs.Option.{option_map}
 use Rattle.std.specs.Prelude.{◌&&◌, ◌==◌, not, nat_lt, if◌then◌else◌}
 use Rattle.dx_base.specs.Lists.{changed_at}
 use Rattle.dx_base.proofs.Lists.{length_changed, get_changed, get_changed_other, get_or_changed, get_or_changed_other, and_both, and_of, all_append}
@@ -32,6 +31,7 @@ use Rattle.sys_core.specs.Consistent.{IsHeld, AreHeld, IsDevice, IsConsistent, f
 use Rattle.sys_core.proofs.Standing.{stands_submit, submitted_is, next_is, of_queue_append}
 use Rattle.sys_core.proofs.Holding.{held_submit, slice_get_drop}
 use Rattle.sys_core.proofs.Startup.{begins_of}
+use Rattle.sys_core.proofs.Calling.{mapped_some}
 
 -- the one queue
 one_queue : (w : World) (q : ℕ) → IsWorld w → q < length w.queues → (q ≡ 0) × (length w.queues ≡ 1)
@@ -117,10 +117,6 @@ submitted_after w h v b p stands after within =
     let two : submitted_of (after_submit v b) p ≡ length (of_queue p after.rest) = submitted_is w (after_submit v b) after.rest p now (after.queues p within).numbered in
     let more : length (of_queue p (after_submit v b).journal) ≡ length (of_queue p v.journal) + (if (b.queue == p) then 1 else 0) = journal_after b p v in
     omega (arith, one, two, more, begins_with w p v.journal stands.rest begins, begins_with w p (after_submit v b).journal after.rest now)
-
-mapped_some : {A B : Type 0} (f : A → B) (o : Option A) (y : B) → option_map f o ≡ Some y → (x : A) × (o ≡ Some x) × (y ≡ f x)
-mapped_some f None y is = absurd (cc)
-mapped_some f (Some x) y is = (x, refl, grind arith)
 
 same_held : (w : World) (h : List Event) (v u : VkState) (p : ℕ) (x : Queued) → IsHeld w h v p x → submitted_of u p ≡ submitted_of v p → IsHeld w h u p x
 same_held w h v u p x is same = record { submitted_is = is.submitted_is ∙ sym same; within = is.within; rest = is.rest; last_is = is.last_is; pending = is.pending }

@@ -3,7 +3,6 @@ use Rattle.std.specs.Prelude.{ℕ, zero, suc, ◌+◌, ◌==◌, ◌&&◌, List,
 use Rattle.d3d_machine.specs.declared.world.World.{World}
 use Rattle.d3d_machine.specs.State.{script_of}
 use Rattle.vk_port.specs.VkState.{VkState, counter_of}
-use Rattle.sys_core.specs.declared.parts.Armed.{Armed}
 use Rattle.sys_core.specs.declared.parts.Held.{Held}
 use Rattle.sys_core.specs.declared.parts.Seat.{Seat}
 

@@ -1,9 +1,15 @@
 -- The steps of the system by choices.
-use Rattle.std.specs.Prelude.{ℕ, ⊤, ◌≡◌, ◌<◌, ◌+◌, ◌%◌, List, [], ◌∷◌, ◌++◌, length, slice_get, Some, Result, Ok, Err}
+use Rattle.std.specs.Prelude.{ℕ, ◌≡◌, ◌<◌, ◌+◌, ◌%◌, List, [], ◌∷◌, ◌++◌, length, slice_get, Some}
 use Rattle.dx_base.specs.declared.steps.Step.{Step}
 use Rattle.dx_base.specs.declared.steps.Step.TheVariants as step
+use Rattle.dx_base.specs.declared.hresult.Hresult.{Hresult}
+use Rattle.dx_base.specs.declared.ids.ThreadId.{ThreadId}
 use Rattle.d3d_machine.specs.declared.world.World.{World}
+use Rattle.d3d_machine.specs.declared.calls.Call.{Call}
+use Rattle.d3d_machine.specs.declared.calls.Reply.TheVariants as reply
 use Rattle.d3d_machine.specs.declared.events.Event.{Event}
+use Rattle.d3d_machine.specs.declared.events.Event.TheVariants as event
+use Rattle.d3d_machine.specs.Laws.{HasNoEffect}
 use Rattle.d3d_machine.specs.Play.{IsFinished, state_after}
 use Rattle.vk_port.specs.VkState.{VkState}
 use Rattle.sys_core.specs.Keeps.{SysView}
@@ -49,6 +55,13 @@ pub record WasTaken {D : Type 0} (state : D → VkState) (rest_of : D → ℕ) (
   pub world : u.world ≡ s.world
   pub goes : IsStep s.world (state_of state s) k (state_of state u)
   pub falls : work u.world u.history (state u.device) + rest_of u.device < work s.world s.history (state s.device) + rest_of s.device
+
+-- where a call was answered by an error, it had no effect: the device is as before, and so is the machine but for what a
+-- refused call does
+abbrev pub AreRefusalsIdle : World → SysState → SysState → Type 0
+AreRefusalsIdle w s u =
+    (t : ThreadId) (c : Call) (e : Hresult) → u.history ≡ s.history ++ event.Call t c (reply.Error e) ∷ [] →
+    (u.device ≡ s.device) × HasNoEffect (state_after w s.history) (state_after w u.history) t c
 
 -- nothing of the system has changed that a step changes
 pub record Stays {D : Type 0} (state : D → VkState) (s u : SysView D) : Type 0 where

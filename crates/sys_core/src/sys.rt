@@ -5,7 +5,7 @@ ghost use Rattle.d3d_machine.specs.World.{IsWorld};
 ghost use Rattle.d3d_machine.specs.Play.{state_after};
 ghost use Rattle.dx_base.specs.declared.steps.Step.TheVariants as step;
 ghost use Rattle.sys_core.specs.Ahead.{IsWhole};
-ghost use Rattle.sys_core.specs.Goes.{WasTaken, Stays};
+ghost use Rattle.sys_core.specs.Goes.{WasTaken, AreRefusalsIdle, Stays, state_of};
 ghost use Rattle.sys_core.specs.Keeps.{Keeps, IsSystem};
 ghost use Rattle.sys_core.specs.Opened.{opened};
 ghost use Rattle.sys_core.specs.Over.{IsOver};
@@ -134,10 +134,12 @@ impl<D: VkDevice> Sys<D> {
         nth_step(&self.world, &self.history, &self.parts, &self.device, k)
     }
 
-    /// A thread's step: it wakes where it waits, and otherwise makes its next call. Refused, all stays.
+    /// A thread's step: it wakes where it waits, and otherwise makes its next call. A call that is answered by an error
+    /// has no other effect. Refused, all stays.
     pub fn thread_step(&mut self, thread: ThreadId) -> Result<(), SysFault>
         requires { is_ready_thread self.old.world self.old.history thread.0 ≡ true }
         ensures taken { OnOk result (WasTaken D.state D.rest_of (step.Thread thread.0) self.old self.new) }
+        ensures refusals { OnOk result (AreRefusalsIdle self.old.world (state_of D.state self.old) (state_of D.state self.new)) }
         ensures system { IsSystem self.new.world self.new.history (D.state self.new.device) }
         ensures whole { IsWhole self.new.world self.new.history (D.state self.new.device) }
         ensures stays { OnErr result (Stays D.state self.old self.new) }

@@ -1,12 +1,10 @@
 -- What a run is at its end, and what a call says of it.
-use Rattle.std.proofs.Common.{ℕ, ◌≡◌, ◌<◌, ◌≤◌, ◌-◌, ◌^◌, ◌∙◌, sym, ap, subst, refl, arith, List, [], length, take, Some, None, Option, ◌⊎◌, inl, inr, IfSome, IfOk, IfErr, OnOk, Result, Ok, Err, Bor}
+use Rattle.std.proofs.Common.{ℕ, ◌≡◌, ◌<◌, ◌≤◌, ◌-◌, ◌^◌, ◌∙◌, sym, ap, subst, refl, arith, List, length, take, Some, None, Option, ◌⊎◌, inl, inr, IfSome, IfOk, IfErr, OnOk, Result, Ok, Err, Bor}
 use Rattle.std.specs.Option.{option_copied, unwrap_or}
 use Rattle.std.proofs.lemmas.Bool.Decides.{leb_tells}
 use Rattle.dx_base.specs.Faults.{HasRisen}
-use Rattle.dx_base.specs.declared.steps.Step.{Step}
 use Rattle.d3d_machine.specs.declared.world.World.{World}
-use Rattle.d3d_machine.specs.declared.events.Event.{Event}
-use Rattle.d3d_machine.specs.Play.{IsFinished, state_after}
+use Rattle.d3d_machine.specs.Play.{state_after}
 use Rattle.trace_text.specs.declared.status.Cause.{Cause}
 use Rattle.trace_text.specs.declared.status.Status.{Status}
 use Rattle.trace_text.specs.declared.status.Status.TheVariants as status
@@ -14,20 +12,18 @@ use Rattle.trace_text.specs.declared.outcome.Outcome.{Outcome}
 use Rattle.trace_text.specs.Output.{output_of}
 use Rattle.trace_text.specs.Values.{Value, value_of}
 use Rattle.trace_text.specs.WorldOf.{world_of_value}
-use Rattle.vk_port.specs.VkState.{VkState}
 use Rattle.sys_core.specs.declared.faults.SysFault.{SysFault}
 use Rattle.sys_core.specs.declared.faults.SysFault.TheVariants as fault
 use Rattle.sys_core.specs.declared.over.Over.{Over}
 use Rattle.sys_core.specs.declared.over.Over.TheVariants as over
 use Rattle.sys_core.specs.Ahead.{IsWhole}
 use Rattle.sys_core.specs.Keeps.{IsSystem}
-use Rattle.sys_core.specs.Laws.{CanGoOn}
 use Rattle.sys_core.specs.Over.{IsOver}
 use Rattle.sys_core.specs.Serving.{HasCause, HasFaultCause}
 use Rattle.sys_core.proofs.Progress.{machine_goes}
 use Rattle.trace_text.proofs.TakenBytes.{first_bytes}
 use Rattle.trace_runner.specs.declared.words.Words.{Words}
-use Rattle.trace_runner.specs.Report.{Given, Left, IsRead, AreGood, IsUntouched, IsUnderway, IsThrough, IsDone, IsStalled, IsLeft, Ran, RanTrace, IsRunOf, OfTrace, IsStopped, Says, ended_by, status_at, Ends, Writes, IsWritten, IsReport, IsUsageAt, IsRefusalAt, is_shown, refused_in}
+use Rattle.trace_runner.specs.Report.{Given, Left, IsRead, AreGood, IsUntouched, IsUnderway, IsThrough, IsLeft, Ran, RanTrace, IsRunOf, OfTrace, IsStopped, Says, ended_by, status_at, Ends, Writes, IsWritten, IsReport, IsUsageAt, IsRefusalAt, is_shown, refused_in}
 use Rattle.trace_runner.specs.Steps.{Went}
 use Rattle.trace_runner.specs.Words.{said_by}
 use Rattle.trace_runner.proofs.OfRounds.{rounds_are_calm}

@@ -1,11 +1,11 @@
 -- Choices lead on, one step at a time.
-use Rattle.std.proofs.Common.{ℕ, zero, suc, ◌≡◌, ◌+◌, ◌≤◌, ◌∙◌, sym, ap, subst, refl, arith, List, [], ◌∷◌, ◌++◌, length, take, ◌⊎◌, inl, inr}
+use Rattle.std.proofs.Common.{ℕ, zero, suc, ◌≡◌, ◌+◌, ◌∙◌, sym, ap, subst, refl, arith, List, [], ◌∷◌, ◌++◌, length, take, ◌⊎◌, inl, inr}
 use Rattle.std.proofs.lemmas.List.{length-append}
 use Rattle.dx_base.specs.declared.steps.Step.{Step}
 use Rattle.d3d_machine.specs.declared.world.World.{World}
 use Rattle.d3d_machine.specs.declared.events.Event.{Event}
 use Rattle.vk_port.specs.VkState.{VkState}
-use Rattle.sys_core.specs.Goes.{SysState, state_of, Chooses, Goes, Stays}
+use Rattle.sys_core.specs.Goes.{SysState, state_of, Chooses, Goes}
 use Rattle.sys_core.specs.Keeps.{SysView}
 use Rattle.trace_runner.specs.declared.log.Log.{Log}
 use Rattle.trace_runner.specs.Steps.{TookStep, TookNone, opening, Went}

@@ -14,13 +14,14 @@ use Rattle.d3d_machine.specs.declared.events.Operation.TheVariants as operation
 use Rattle.d3d_machine.specs.State.{Desk}
 use Rattle.d3d_machine.specs.World.{is_upload, is_inside, words_in}
 use Rattle.d3d_machine.specs.Replies.{refusal, refuse_if}
-use Rattle.d3d_machine.specs.Effects.{desk_after, desk_after_call, desk_or, counted, woken}
+use Rattle.d3d_machine.specs.Effects.{desk_after, desk_after_call, counted, woken}
 use Rattle.d3d_machine.specs.Operations.{operation_of, unless_refused}
 use Rattle.d3d_machine.specs.Play.{is_marked}
 use Rattle.sys_core.specs.Ahead.{is_access}
 use Rattle.sys_core.specs.InOrder.{is_single}
 use Rattle.trace_runner.specs.Rounds.{Round, calls_of, world_with}
 use Rattle.trace_runner.specs.Moments.{Flight, Both, Last, Neither, Moment, Between, Written, Begun, Recorded, Ended, Executed, Signalled, Waits, Woken, from_write, left_at, next_at, signals, after_call, less, after_queue, after_awake, value_in, called_busy, execute_copy, called_in, called_at, is_through, waits_at, desk_at, IsRising}
+use Rattle.d3d_machine.proofs.Served.{desk_same}
 
 -- a fact of the next call, where there is one
 abbrev pub OnNext : (Call → Type 0) → Option Call → Type 0
@@ -31,10 +32,6 @@ OnNext P (Some c) = P c
 pub on_next : (P : Call → Type 0) (o : Option Call) (c : Call) → OnNext P o → o ≡ Some c → P c
 on_next P None c holds is = absurd (cc)
 on_next P (Some d) c holds is = let same : d ≡ c = cc in subst P same holds
-
-same_either : (r : Option Hresult) (d : Desk) → desk_or r d d ≡ d
-same_either None d = refl
-same_either (Some e) d = refl
 
 -- the value of the round suffices exactly where its signal is complete
 reached : (f : Flight) (v u : ℕ) → v < u → nat_le u (value_in f v u) ≡ is_through f
@@ -51,7 +48,7 @@ write_call : (calls : List Call) (n : ℕ) (first : Bool) (v : ℕ) (r : Round) 
     desk_after_call (world_with calls) (desk_at n (Between first v (r ∷ rs))) 0 (call.Write (record { 0 = 0 }) 0 r.words) ≡ desk_at (n + 1) (Written first v r rs)
 write_call calls n first v r rs =
     let d : Desk = desk_at n (Between first v (r ∷ rs)) in
-    ap (counted 0) (same_either (refusal (world_with calls) d (call.Write (record { 0 = 0 }) 0 r.words)) d)
+    ap (counted 0) (desk_same (refusal (world_with calls) d (call.Write (record { 0 = 0 }) 0 r.words)) d)
 
 reset_call : (calls : List Call) (n : ℕ) (first : Bool) (v : ℕ) (r : Round) (rs : List Round) →
     desk_after_call (world_with calls) (desk_at n (Written first v r rs)) 0 (call.Reset (record { 0 = 0 }) (record { 0 = 0 })) ≡ desk_at (n + 1) (Begun v r rs)
@@ -78,7 +75,7 @@ call_moves calls n (Signalled f v r rs) rising = ap (marked_desk (n + 1) v r rs 
 call_moves calls n (Waits f v r rs) rising = tt
 call_moves calls n (Woken v rs) rising =
     let d : Desk = desk_at n (Woken v rs) in
-    ap (counted 0) (same_either (refusal (world_with calls) d (call.Read (record { 0 = 1 }) 0 16)) d)
+    ap (counted 0) (desk_same (refusal (world_with calls) d (call.Read (record { 0 = 1 }) 0 16)) d)
 
 -- a call that reads or writes a buffer comes where nothing is called and incomplete
 pub access_is_quiet : (m : Moment) → OnNext (λ c. is_access c ≡ true → called_at m ≡ []) (next_at m)

@@ -21,8 +21,8 @@ use Rattle.sys_core.specs.InOrder.{is_single}
 use Rattle.trace_runner.specs.Rounds.{Round, calls_of, world_with, world_of_rounds, AreRising}
 use Rattle.trace_runner.specs.Moments.{Moment, Between, left_at, next_at, after_call, after_queue, after_awake, called_at, waits_at, desk_at, IsRising}
 use Rattle.trace_runner.proofs.Moments.{on_next, call_moves, access_is_quiet, call_is_single, call_rises, IsNext, first_is_next, queue_moves, queue_leaves, queue_rises, awake_moves, awake_leaves, awake_rises}
-use Rattle.sys_core.proofs.InOrder.{all_both}
 use Rattle.sys_core.proofs.Whole.{quiet_append}
+use Rattle.dx_base.proofs.Lists.{all_append}
 
 -- a desk at a moment, with the calls of the script that are behind those made
 pub record IsAt (calls : List Call) (d : Desk) : Type 0 where
@@ -184,5 +184,5 @@ rounds_are_single rounds h rising run =
     λ q. run_induction (λ es. list_all is_single (operations w es q) ≡ true) w refl
     (λ es e before are may.
     subst (λ os. list_all is_single os ≡ true) (sym (operations_append w (first_state w) q es e))
-    (all_both is_single (operations w es q) (called_by w (state_after w es).desk q e) are (single_at calls (state_after w es) q e (run_is_at rounds es rising before) may)))
+    (all_append is_single (operations w es q) (called_by w (state_after w es).desk q e) are (single_at calls (state_after w es) q e (run_is_at rounds es rising before) may)))
     h run

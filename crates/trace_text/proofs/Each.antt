@@ -3,7 +3,7 @@ use Rattle.std.proofs.Common.{ℕ, suc, ◌≡◌, ◌+◌, ◌<◌, ◌≤◌, 
 use Rattle.std.proofs.lemmas.Bool.Decides.{nat_tests}
 use Rattle.std.proofs.lemmas.List.{drop_all}
 use Rattle.trace_text.specs.declared.status.Cause.{Cause}
-use Rattle.trace_text.specs.Causes.{rank_of, earlier_of, wrapped, two_of}
+use Rattle.trace_text.specs.Causes.{earlier_of, wrapped, two_of}
 use Rattle.trace_text.specs.Shapes.{each_of}
 
 -- of three causes the earliest is the same in whatever order they are compared

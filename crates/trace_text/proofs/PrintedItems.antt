@@ -12,6 +12,7 @@ use Rattle.trace_text.specs.Known.{KnownNames, known_names}
 use Rattle.trace_text.specs.Scripts.{with_call}
 use Rattle.trace_text.proofs.Naming.{names_behind}
 use Rattle.trace_text.proofs.PrintedLines.{line_of}
+use Rattle.trace_text.proofs.Printing.{no_threads}
 
 -- the line of what it means
 abbrev pub printed_line : KnownNames → Item → List ℕ
@@ -42,12 +43,6 @@ object_behind [] (e ∷ ds) n few = absurd (omega arith)
 object_behind (m ∷ ns) [] n few = refl
 object_behind (m ∷ ns) (e ∷ ds) n few = ap (λ more. Declares m e ∷ more) (object_behind ns ds n (omega arith))
 
--- no threads
-thread_none : (ns : List (List ℕ)) → thread_items ns [] ≡ []
-unfolding thread_items
-thread_none [] = refl
-thread_none (n ∷ ns) = refl
-
 -- one more thread
 thread_push : (ns : List (List ℕ)) (ss : List (List Call)) (n : List ℕ) → length ns ≡ length ss →
     thread_items (ns ++ n ∷ []) (ss ++ [] ∷ []) ≡ thread_items ns ss ++ Starts n ∷ []
@@ -68,7 +63,7 @@ thread_call [] (s ∷ ss) c same some = absurd (omega arith)
 thread_call (m ∷ ns) (s ∷ []) c same some = ap (λ more. Starts m ∷ more) (last s)
   where
     none : thread_items ns [] ≡ []
-    none = thread_none ns
+    none = no_threads ns
 
     last : (s : List Call) → map Calls (s ++ c ∷ []) ++ thread_items ns [] ≡ (map Calls s ++ thread_items ns []) ++ Calls c ∷ []
     last s = rw (none, map-append, append-nil (map Calls s), append-nil) refl
@@ -81,10 +76,10 @@ pub body_object : (ns : List (List ℕ)) (ds : List Declared) (ss : List (List C
     body_items (ns ++ n ∷ []) (ds ++ d ∷ []) ss ≡ body_items ns ds ss ++ Declares n d ∷ []
 body_object ns ds (s ∷ ss) n d same none = absurd (omega arith)
 body_object ns ds [] n d same none =
-    ap (λ more. object_items (ns ++ n ∷ []) (ds ++ d ∷ []) ++ more) (thread_none (drop (length (ds ++ d ∷ [])) (ns ++ n ∷ [])))
+    ap (λ more. object_items (ns ++ n ∷ []) (ds ++ d ∷ []) ++ more) (no_threads (drop (length (ds ++ d ∷ [])) (ns ++ n ∷ [])))
     ∙ (append-nil (object_items (ns ++ n ∷ []) (ds ++ d ∷ []))
     ∙ (object_push ns ds n d same
-    ∙ ap (λ some. some ++ Declares n d ∷ []) (sym (ap (λ more. object_items ns ds ++ more) (thread_none (drop (length ds) ns)) ∙ append-nil (object_items ns ds)))))
+    ∙ ap (λ some. some ++ Declares n d ∷ []) (sym (ap (λ more. object_items ns ds ++ more) (no_threads (drop (length ds) ns)) ∙ append-nil (object_items ns ds)))))
 
 -- the body with one more thread
 pub body_thread : (ns : List (List ℕ)) (ds : List Declared) (ss : List (List Call)) (n : List ℕ) → length ns ≡ length ds + length ss →
@@ -124,7 +119,7 @@ pub body_lines : (a b : KnownNames) (ns : List (List ℕ)) (ds : List Declared) 
     printed_lines a (body_items ns ds ss) ≡ printed_lines b (body_items ns ds ss)
 body_lines a b ns ds (s ∷ ss) none = absurd (omega arith)
 body_lines a b ns ds [] none =
-    let objects : body_items ns ds [] ≡ object_items ns ds = ap (λ more. object_items ns ds ++ more) (thread_none (drop (length ds) ns)) ∙ append-nil (object_items ns ds) in
+    let objects : body_items ns ds [] ≡ object_items ns ds = ap (λ more. object_items ns ds ++ more) (no_threads (drop (length ds) ns)) ∙ append-nil (object_items ns ds) in
     ap (printed_lines a) objects ∙ (object_lines a b ns ds ∙ sym (ap (printed_lines b) objects))
 
 -- a thread's name is known of no object

@@ -59,7 +59,7 @@ unfolding thread_items
 thread_unnamed known ns ss i out unnamed = rw (drops_none ns i unnamed, drops_none_next ns i unnamed) refl
 
 -- no threads are left
-no_threads : (ns : List (List ℕ)) → thread_items ns [] ≡ []
+pub no_threads : (ns : List (List ℕ)) → thread_items ns [] ≡ []
 unfolding thread_items
 no_threads [] = refl
 no_threads (n ∷ ns) = refl

@@ -1,5 +1,5 @@
 -- One more call of the last thread.
-use Rattle.std.proofs.Common.{ℕ, zero, suc, ◌≡◌, ◌+◌, ◌<◌, List, [], ◌∷◌, ◌++◌, length, get_or, slice_set, arith, refl, ap}
+use Rattle.std.proofs.Common.{ℕ, zero, suc, ◌≡◌, ◌+◌, List, [], ◌∷◌, ◌++◌, length, get_or, slice_set, arith, ap}
 use Rattle.d3d_machine.specs.declared.calls.Call.{Call}
 use Rattle.trace_text.specs.Scripts.{with_call}
 

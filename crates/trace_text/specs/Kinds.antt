@@ -1,6 +1,5 @@
 -- What is declared: kinds, counts and limits.
 use Rattle.std.specs.Prelude.{ℕ, ◌+◌, ◌/◌, ◌%◌, ◌==◌, ◌||◌, not, nat_lt, nat_le, List, Bool, count_by, sum_by, if◌then◌else◌}
-use Rattle.dx_base.specs.declared.kinds.Home.{Home}
 use Rattle.trace_text.specs.declared.object.Declared.{Declared}
 use Rattle.trace_text.specs.declared.object.Declared.TheVariants as declared
 use Rattle.trace_text.specs.declared.things.Kind.{Kind}

@@ -1,5 +1,5 @@
 -- The output of any run: of a trace, where one was read, and of what came of it.
-use Rattle.std.specs.Prelude.{ℕ, ◌+◌, List, [], ◌∷◌, ◌++◌, flat_map, length, codes, Option, Some, None, Bool, true, false, if◌then◌else◌}
+use Rattle.std.specs.Prelude.{ℕ, ◌+◌, List, [], ◌∷◌, ◌++◌, flat_map, codes, Option, Some, None, Bool, true, false, if◌then◌else◌}
 use Rattle.dx_base.specs.Hresult.{code_of}
 use Rattle.dx_base.specs.declared.hresult.Hresult.TheVariants.{InvalidArg}
 use Rattle.d3d_machine.specs.declared.calls.Call.{Call}

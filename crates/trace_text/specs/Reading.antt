@@ -2,7 +2,6 @@
 use Rattle.std.specs.Prelude.{ℕ, ◌==◌, ◌||◌, nat_lt, nat_le, Bool, true, false, List, [], ◌∷◌, ◌++◌, length, Option, Some, None, Result, Ok, Err, if◌then◌else◌}
 use Rattle.std.specs.Str.{bytes_eq}
 use Rattle.indexmap.specs.IndexMap.{insert_entry}
-use Rattle.d3d_machine.specs.declared.calls.Call.{Call}
 use Rattle.trace_words.specs.Rows.{row_of, is_among}
 use Rattle.trace_text.specs.declared.status.Cause.{Cause}
 use Rattle.trace_text.specs.declared.status.Cause.TheVariants as cause
@@ -12,16 +11,13 @@ use Rattle.trace_text.specs.declared.keyword.Class.{Class}
 use Rattle.trace_text.specs.declared.keyword.Class.TheVariants as class
 use Rattle.trace_text.specs.declared.keyword.Keyword.{Keyword}
 use Rattle.trace_text.specs.declared.keyword.Keyword.TheVariants as keyword
-use Rattle.trace_text.specs.declared.object.Declared.{Declared}
 use Rattle.trace_text.specs.declared.reading.Reading.{Reading}
 use Rattle.trace_text.specs.declared.things.Kind.TheVariants as kind
-use Rattle.trace_text.specs.declared.things.Thing.{Thing}
 use Rattle.trace_text.specs.Forms.{keywords, form_of}
 use Rattle.trace_text.specs.Kinds.{count_of, next_thing, is_one_too_many}
 use Rattle.trace_text.specs.Later.{later_words, is_later_kind}
 use Rattle.trace_text.specs.Scripts.{is_call_too_many, with_call}
 use Rattle.trace_text.specs.Shapes.{read_form}
-use Rattle.trace_text.specs.Things.{Names}
 
 -- what a first word begins
 abbrev pub class_of : Keyword → Class

@@ -38,7 +38,7 @@ and_second true b h = h
 and_second false b h = absurd (true≢false (sym h))
 
 -- a fact of an item, where a test holds
-each_if : {X : Type 0} (P : X → Type 0) (b : Bool) (x : X) → (b ≡ true → P x) → AllByRecursion P (if b then x ∷ [] else [])
+pub each_if : {X : Type 0} (P : X → Type 0) (b : Bool) (x : X) → (b ≡ true → P x) → AllByRecursion P (if b then x ∷ [] else [])
 each_if P true x p = (p refl, tt)
 each_if P false x p = tt
 

@@ -136,7 +136,7 @@ pub falls : (v : VkState) → IsValid v → (k : ℕ) (s : Stepped) → slice_ge
 falls v valid k s is = falls_when v s valid (enabled_means v k s is)
 
 -- all commands of a batch are left at first
-unmarked_all : (cs : List VkCommand) → unmarked cs (replicate (length cs) false) ≡ cs
+pub unmarked_all : (cs : List VkCommand) → unmarked cs (replicate (length cs) false) ≡ cs
 unmarked_all [] = refl
 unmarked_all (c ∷ cs) = ap (λ (es : List VkCommand). c ∷ es) (unmarked_all cs)
 

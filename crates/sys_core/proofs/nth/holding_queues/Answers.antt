@@ -1,5 +1,5 @@
 -- A turn counts the queue, where it holds an operation.
-use Rattle.std.proofs.Common.{ℕ, ◌≡◌, ◌+◌, ◌<◌, ◌∙◌, sym, ap, arith, length, Bool}
+use Rattle.std.proofs.Common.{ℕ, ◌≡◌, ◌<◌, ◌∙◌, sym, ap, arith, length, Bool}
 use Rattle.std.specs.Prelude.{not}
 use Rattle.dx_base.specs.declared.steps.Step.TheVariants as step
 use Rattle.sys_core.specs.Nth.{holds_at}

@@ -1,5 +1,5 @@
 -- The step is that of its place.
-use Rattle.std.proofs.Common.{◌<◌, ◌^◌, arith}
+use Rattle.std.proofs.Common.{arith}
 use Rattle.sys_core.proofs.NthStep as nth
 use Rattle.sys_core.proofs.nth.nth_step.Goals as goal
 

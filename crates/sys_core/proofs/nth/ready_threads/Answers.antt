@@ -1,5 +1,5 @@
 -- A turn counts the thread, where it can go on.
-use Rattle.std.proofs.Common.{ℕ, ◌≡◌, ◌+◌, ◌<◌, ◌∙◌, arith, map, length, Bool}
+use Rattle.std.proofs.Common.{ℕ, ◌≡◌, ◌<◌, ◌∙◌, arith, map, length, Bool}
 use Rattle.dx_base.specs.declared.steps.Step.TheVariants as step
 use Rattle.sys_core.specs.Nth.{ready_at}
 use Rattle.sys_core.specs.Parts.{updates_in}

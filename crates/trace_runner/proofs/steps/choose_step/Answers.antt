@@ -1,5 +1,5 @@
 -- The step is the one that the choice names.
-use Rattle.std.proofs.Common.{◌≡◌, ◌%◌, ◌∙◌, sym, ap, subst, refl, ◌∷◌, ◌++◌, [], length, Some}
+use Rattle.std.proofs.Common.{◌≡◌, ◌%◌, ◌∙◌, ap, subst, refl, ◌∷◌, ◌++◌, [], Some}
 use Rattle.std.specs.List.{slice_get}
 use Rattle.sys_core.specs.Steps.{enabled_of}
 use Rattle.sys_core.proofs.NthStep.{any_step}

@@ -1,4 +1,4 @@
-use Rattle.std.proofs.Common.{◌∙◌, ◌-◌, length, sym, arith}
+use Rattle.std.proofs.Common.{◌∙◌, length, sym, arith}
 use Rattle.trace_text.proofs.TextSteps.{end_is, line_taken, line_faulted, last_told}
 use Rattle.trace_text.proofs.texts.read_text.Goals as goal
 

@@ -1,9 +1,7 @@
 -- What the step leaves.
-use Rattle.std.proofs.Common.{◌≡◌, sym, subst, true, OnOk, ◌<◌}
+use Rattle.std.proofs.Common.{subst, OnOk}
 use Rattle.sys_core.specs.Goes.{WasTaken}
-use Rattle.sys_core.specs.Steps.{is_ready_thread, is_ready_worker}
 use Rattle.dx_base.specs.declared.steps.Step.TheVariants as step
-use Rattle.vk_port.specs.Offers.{steps_offered}
 use Rattle.sys_core.proofs.Stepping as stepping
 use Rattle.sys_core.proofs.sys.Sys.device_step.Goals as goal
 

@@ -1,9 +1,10 @@
 -- What the step leaves.
-use Rattle.std.proofs.Common.{◌≡◌, sym, subst, true, OnOk, ◌<◌}
+use Rattle.std.proofs.Common.{◌≡◌, sym, subst, true, OnOk}
 use Rattle.sys_core.specs.Goes.{WasTaken}
-use Rattle.sys_core.specs.Steps.{is_ready_thread, is_ready_worker}
+use Rattle.sys_core.specs.Steps.{is_ready_thread}
 use Rattle.dx_base.specs.declared.steps.Step.TheVariants as step
-use Rattle.vk_port.specs.Offers.{steps_offered}
+use Rattle.sys_core.specs.Keeps.{IsSystem}
+use Rattle.sys_core.proofs.Refusing as refusing
 use Rattle.sys_core.proofs.Stepping as stepping
 use Rattle.sys_core.proofs.sys.Sys.thread_step.Goals as goal
 
@@ -31,3 +32,12 @@ returns-clause-taken g c =
     (stepping.thread_goes g.D.VkDevice.state g.D.VkDevice.plan_of c.self.inside.world c.self.inside.history.items c.self.inside.parts c.self.inside.device c.self.invariant.keeps
     c.args.thread (subst (λ v. is_ready_thread v.world v.history c.args.thread.0 ≡ true) (sym c.self.view_is) c.requires) c.thread_step.new.history.items (g.D.VkDevice.state c.thread_step.new.device) c.thread_step.result
     c.thread_step.ensures.event c.thread_step.ensures.state (g.D.VkDevice.rest_of c.self.inside.device) (g.D.VkDevice.rest_of c.thread_step.new.device) c.thread_step.ensures.rest))
+
+pub returns-clause-refusals : goal.returns-clause-refusals
+returns-clause-refusals g c =
+    refusing.refusals g.D.VkDevice.state g.D.VkDevice.rest_of c.args.thread.0 c.args.self.now
+    (record { world = c.self.inside.world; history = c.thread_step.new.history.items; device = c.thread_step.new.device }) c.thread_step.result
+    (subst (λ v. IsSystem v.world v.history (g.D.VkDevice.state v.device)) c.self.view_is
+    (record { world = c.self.invariant.keeps.consistent.world; run = c.self.invariant.keeps.consistent.run; device = c.self.invariant.keeps.consistent.device }))
+    (record { world = c.thread_step.ensures.keeps.consistent.world; run = c.thread_step.ensures.keeps.consistent.run; device = c.thread_step.ensures.keeps.consistent.device })
+    (returns-clause-taken g c)

@@ -1,4 +1,4 @@
-use Rattle.std.proofs.Common.{◌-◌, arith}
+use Rattle.std.proofs.Common.{arith}
 use Rattle.trace_text.proofs.Scripting.{last_grows}
 use Rattle.trace_text.proofs.scripts.Scripts.push.Goals as goal
 
