@@ -15,8 +15,8 @@ pub fn refusal(alloc: Global, text: &str) -> Result<Option<(u64, Cause)>, Memory
     }
 }
 
-/// Texts that are refused, with the line and the cause.
-fn refused_texts() -> [(&'static str, u64, Cause); 25] {
+/// Texts that are refused before their lines have a form, with the line and the cause.
+fn refused_lines() -> [(&'static str, u64, Cause); 16] {
     [
         ("", 1, Cause::Cut),
         ("d3dtrace 1\n", 2, Cause::Cut),
@@ -24,8 +24,10 @@ fn refused_texts() -> [(&'static str, u64, Cause); 25] {
         ("d3dtrace 1\nend", 2, Cause::Cut),
         ("d3dtrace 1\nend\n\n", 3, Cause::After),
         ("d3dtrace 1\nend\nend\n", 3, Cause::After),
+        ("d3dtrace 1\nend\nd3dtrace 2\n", 3, Cause::After),
         ("d3dtrace 1\nend\n ", 3, Cause::Cut),
-        ("d3dtrace 1\nfence f\t0\nend\n", 2, Cause::Line),
+        ("d3dtrace 1\nend\n\t", 3, Cause::Line),
+        ("d3dtrace 1\nfence f\t0", 2, Cause::Line),
         ("d3dtrace 1\n# comment\n\nfence f\t0\nend\n", 4, Cause::Line),
         ("d3dtrace 2\nend\n", 1, Cause::Later),
         ("d3dtrace 1\nqueue q compute\nend\n", 2, Cause::Later),
@@ -36,15 +38,51 @@ fn refused_texts() -> [(&'static str, u64, Cause); 25] {
             Cause::Later,
         ),
         ("d3dtrace 1\nthread t\nthread x\nend\n", 3, Cause::Later),
+    ]
+}
+
+/// Texts with a line that has or lacks a form, and may not stand there, with the line and the cause.
+fn refused_forms() -> [(&'static str, u64, Cause); 14] {
+    [
+        ("d3dtrace 1\nwait q f 1\nend\n", 2, Cause::Later),
+        (
+            "d3dtrace 1\nthread t\nview v uav d 0 256\nend\n",
+            3,
+            Cause::Later,
+        ),
+        ("view v uav d 0 256\nend\n", 1, Cause::Later),
         ("d3dtrace 1\nvalue f\nend\n", 2, Cause::Order),
-        ("d3dtrace 1\nthread t\nfence f 0\nend\n", 3, Cause::Order),
+        ("value f\nend\n", 1, Cause::Order),
+        (
+            "d3dtrace 1\nthread t\nfence f 18446744073709551616\nend\n",
+            3,
+            Cause::Order,
+        ),
         ("d3dtrace 1\nd3dtrace 1\nend\n", 2, Cause::Order),
+        ("d3dtrace 1\nd3dtrace 3\nend\n", 2, Cause::Form),
+        ("d3dtrace 3\nend\n", 1, Cause::Form),
         ("fence f 0\nend\n", 1, Cause::Form),
         ("d3dtrace 1\nfoo\nend\n", 2, Cause::Form),
         ("d3dtrace 1\nfence f  0\nend\n", 2, Cause::Form),
+        ("d3dtrace 1\nthread t\nqueue q foo\nend\n", 3, Cause::Form),
         (
-            "d3dtrace 1\nfence f 18446744073709551616\nend\n",
+            "d3dtrace 1\nfence f 18446744073709551616 0\nend\n",
             2,
+            Cause::Form,
+        ),
+    ]
+}
+
+/// Texts with a line of a form that says what it may not, with the line and the cause.
+fn refused_parts() -> [(&'static str, u64, Cause); 8] {
+    let f = "d3dtrace 1\nfence f 18446744073709551616\nend\n";
+    let g = "d3dtrace 1\nfence f 0\nfence f 18446744073709551616\nend\n";
+    [
+        (f, 2, Cause::Number),
+        (g, 3, Cause::Number),
+        (
+            "d3dtrace 1\nthread t\nhostsignal f 18446744073709551616\nend\n",
+            3,
             Cause::Number,
         ),
         (
@@ -59,6 +97,11 @@ fn refused_texts() -> [(&'static str, u64, Cause); 25] {
         ),
         ("d3dtrace 1\nthread t\nvalue f\nend\n", 3, Cause::Name),
         (
+            "d3dtrace 1\nthread t\nvalue a12345678901234567890123456789012\nend\n",
+            3,
+            Cause::Name,
+        ),
+        (
             "d3dtrace 1\nfence a12345678901234567890123456789012 0\nend\n",
             2,
             Cause::Limit,
@@ -66,10 +109,22 @@ fn refused_texts() -> [(&'static str, u64, Cause); 25] {
     ]
 }
 
+/// The text is refused at that line with that cause.
+fn is_refused(alloc: Global, row: (&str, u64, Cause)) -> Result<bool, Memory> {
+    let (text, line, cause) = row;
+    Ok(refusal(alloc, text)? == Some((line, cause)))
+}
+
 #[test]
 fn each_bad_text_is_refused_at_its_line_with_its_cause(rt: HostRuntime) -> Result<(), Fail> {
-    for (text, line, cause) in refused_texts() {
-        assert_eq!(rt; refusal(rt.alloc(), text)?, Some((line, cause)));
+    for row in refused_lines() {
+        assert!(rt; is_refused(rt.alloc(), row)?, "{}", row.0);
+    }
+    for row in refused_forms() {
+        assert!(rt; is_refused(rt.alloc(), row)?, "{}", row.0);
+    }
+    for row in refused_parts() {
+        assert!(rt; is_refused(rt.alloc(), row)?, "{}", row.0);
     }
     Ok(())
 }
