@@ -1,5 +1,5 @@
--- Laws of the machine's steps and of refused calls.
-use Rattle.std.specs.Prelude.{◌≡◌, ◌++◌, ◌∷◌, [], List, Some}
+-- Laws of the machine: of its steps, of refused calls, of scripts, and of waits.
+use Rattle.std.specs.Prelude.{ℕ, ◌≡◌, ◌++◌, ◌∷◌, [], List, Some}
 use Rattle.dx_base.specs.Lists.{changed_at}
 use Rattle.dx_base.specs.declared.hresult.Hresult.{Hresult}
 use Rattle.dx_base.specs.declared.ids.QueueId.{QueueId}
@@ -12,10 +12,12 @@ use Rattle.d3d_machine.specs.declared.calls.Reply.TheVariants as reply
 use Rattle.d3d_machine.specs.declared.events.Event.{Event}
 use Rattle.d3d_machine.specs.declared.events.Event.TheVariants as event
 use Rattle.d3d_machine.specs.declared.events.Listed.{Listed}
-use Rattle.d3d_machine.specs.State.{State, list_of, is_recording}
+use Rattle.d3d_machine.specs.World.{IsWorld}
+use Rattle.d3d_machine.specs.State.{State, Waiting, list_of, place_of, is_recording}
 use Rattle.d3d_machine.specs.Effects.{one_call_more}
 use Rattle.d3d_machine.specs.Lists.{failed_lists_if}
-use Rattle.d3d_machine.specs.Play.{May, SameReply, IsRunButWords, state_after}
+use Rattle.d3d_machine.specs.Marks.{IsMetSince}
+use Rattle.d3d_machine.specs.Play.{AreOfScripts, May, SameReply, IsRunButWords, state_after}
 use Rattle.d3d_machine.specs.Steps.{thread_step, queue_step}
 
 -- the events of the steps are the events that may come
@@ -53,3 +55,14 @@ abbrev pub RefusedCallsHaveNoEffect : Type 0
 RefusedCallsHaveNoEffect =
     (w : World) (h : List Event) (t : ThreadId) (c : Call) (e : Hresult) → IsRunButWords w (h ++ event.Call t c (reply.Error e) ∷ []) →
     HasNoEffect (state_after w h) (state_after w (h ++ event.Call t c (reply.Error e) ∷ [])) t c
+
+-- in a run, also but for words, each thread's calls are the first of its script
+abbrev pub RunsFollowScripts : Type 0
+RunsFollowScripts = (w : World) (h : List Event) → IsRunButWords w h → AreOfScripts w h
+
+-- in a run of a valid world, also but for words, a thread's wait is marked exactly where an update of its fence is at least
+-- its value that was current at its call or applied since
+abbrev pub WaitsAreMetSince : Type 0
+WaitsAreMetSince =
+    (w : World) (h : List Event) → IsWorld w → IsRunButWords w h → (t : ℕ) (x : Waiting) →
+    (place_of (state_after w h).desk t).waits ≡ Some x → IsMetSince w h t x

@@ -66,10 +66,6 @@ calls_in t (e ∷ h) = calls_by t e ++ calls_in t h
 abbrev pub AreOfScripts : World → List Event → Type 0
 AreOfScripts w h = (t : ℕ) → calls_in t h ≡ take (length (calls_in t h)) (script_of w t)
 
--- each thread has made all calls of its script, and waits for nothing
-abbrev pub has_ended : World → Desk → ℕ → Bool
-has_ended w d t = (place_of d t).made == length (script_of w t)
-
 -- every script has ended, no thread waits, and every queue is empty
 pub record IsFinished (w : World) (d : Desk) : Type 0 where
   pub scripts : (t : ℕ) → (place_of d t).made ≡ length (script_of w t)

@@ -1,6 +1,6 @@
 //! Laws of the machine. The functions do nothing.
 
-ghost use Rattle.d3d_machine.specs.Laws.{StepsMay, RefusedCallsHaveNoEffect};
+ghost use Rattle.d3d_machine.specs.Laws.{StepsMay, RefusedCallsHaveNoEffect, RunsFollowScripts, WaitsAreMetSince};
 
 /// The events of the steps are the events that may come: what a thread's or a queue's step gives may come,
 /// and of each thread and each queue nothing else may.
@@ -15,4 +15,17 @@ pub fn the_steps_are_the_events_that_may_come()
 #[tactic(auto, using(crate::proofs::Refusals::refused_calls_have_no_effect))]
 pub fn refused_calls_have_no_effect()
     ensures { RefusedCallsHaveNoEffect }
+{}
+
+/// In a run, also but for words, each thread's calls are the first of its script, in order.
+#[tactic(auto, using(crate::proofs::Places::runs_follow_scripts))]
+pub fn runs_follow_scripts()
+    ensures { RunsFollowScripts }
+{}
+
+/// In a run of a valid world, also but for words, the wait of a thread is met exactly where an update of its fence is at
+/// least its value that was current at the call or applied since.
+#[tactic(auto, using(crate::proofs::Marking::marks_are_met))]
+pub fn waits_are_met_since()
+    ensures { WaitsAreMetSince }
 {}

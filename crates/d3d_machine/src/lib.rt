@@ -19,7 +19,10 @@ mod world;
 pub use calls::{Call, Record, Reply};
 pub use checks::{argument_error, read_refusal, write_refusal};
 pub use events::{Command, Event, ListState, Listed, Operation};
-pub use laws::{refused_calls_have_no_effect, the_steps_are_the_events_that_may_come};
+pub use laws::{
+    refused_calls_have_no_effect, runs_follow_scripts, the_steps_are_the_events_that_may_come,
+    waits_are_met_since,
+};
 pub use lists::Lists;
 pub use machine::Machine;
 pub use world::{Resource, World};

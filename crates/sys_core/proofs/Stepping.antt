@@ -41,6 +41,7 @@ use Rattle.sys_core.proofs.Work.{call_falls, awake_falls, submit_falls, device_f
 -- a step that went: the work with the free steps left falls, and what the history and the device say of each other stays
 pub record Goes (w : World) (h k : List Event) (v u : VkState) (before after : ℕ) : Type 0 where
   pub falls : work w k u + after < work w h v + before
+  pub rest : after ≤ before
   pub whole : IsWhole w h v → IsWhole w k u
 
 -- the same, of what the history and the device are
@@ -57,6 +58,7 @@ module _ {D : Type 0} (state : D → VkState) (plan_of : D → Option DevicePlan
       ap is_marked waits ∙ sym (ap (λ (o : Option Waiting). elim o [ None ↦ nat_lt (place_of (state_after w h).desk t.0).made (length (script_of w t.0)) | Some y ↦ y.marked ]) waits) ∙ ready in
       record {
         falls = omega (arith, awake_falls w h (state d) t x waits, same);
+        rest = omega (arith, same);
         whole = whole_awake w h (state d) t keeps.consistent.world keeps.consistent.run keeps.consistent.device may;
       }
 
@@ -65,6 +67,7 @@ module _ {D : Type 0} (state : D → VkState) (plan_of : D → Option DevicePlan
       (a b : ℕ) → b ≡ a → Goes w h (h ++ event.Call t c (reply_by w p.lists (map updates_in p.fences) (state d) c) ∷ []) (state d) (device_by w p.lists (state d) c) a b
   call_went t c waits next a b same = record {
     falls = omega (arith, call_falls w h (state d) (device_by w p.lists (state d) c) t c (reply_by w p.lists (map updates_in p.fences) (state d) c) next refl refl, same);
+    rest = omega (arith, same);
     whole = whole_call w h p.lists (map updates_in p.fences) (state d) t c keeps.consistent.world keeps.consistent.run keeps.consistent.device keeps.consistent.lists_are
         (values_are w h (map updates_in p.fences) keeps.consistent.fences_are) waits next;
   }
@@ -116,6 +119,7 @@ module _ {D : Type 0} (state : D → VkState) (plan_of : D → Option DevicePlan
       goes_of w h h h v u (after_submit v batch) a b refl (device ∙ ap (λ x. after_submits v (next_batch w h v q x)) found.1)
       (record {
         falls = omega (arith, submit_falls w h v q o batch within found.1 refl refl refl keeps.consistent.device.valid lane, same);
+        rest = omega (arith, same);
         whole = whole_submit w h v q batch o keeps.consistent.world keeps.consistent.device within found.1 refl refl refl;
       })
 
@@ -129,12 +133,13 @@ module _ {D : Type 0} (state : D → VkState) (plan_of : D → Option DevicePlan
         | inl past ↦
             let none : s ≡ stepped.Free = is.free past.1 in
             goes_of w h k h v u v a b (is.history ∙ ap (λ x. h ++ step_events x) none ∙ append-nil h) (is.state ∙ ap (after_step v) none)
-            (record { falls = omega (arith, free past.1); whole = λ x. x })
+            (record { falls = omega (arith, free past.1); rest = less; whole = λ x. x })
         | inr within ↦
             let at : slice_get (enabled_steps v) j ≡ Some s = is.named within.1 in
             goes_of w h k (h ++ step_events s) v u (after_step v s) a b is.history is.state
             (record {
               falls = omega (arith, device_falls w h v j s keeps.consistent.device.valid at, less);
+              rest = less;
               whole = whole_step w h v j s keeps.consistent.world keeps.consistent.run keeps.consistent.device at (subst (IsRunButWords w) is.history run);
             })
       ]
@@ -172,7 +177,7 @@ module _ {D : Type 0} (state : D → VkState) (plan_of : D → Option DevicePlan
   pub taken : (rest_of : D → ℕ) (s : Step) (k : List Event) (e : D) (res : Result ⊤ SysFault) →
       OnOk res (IsStep w (record { history = h; device = state d }) s (record { history = k; device = state e })) → OnOk res (Goes w h k (state d) (state e) (rest_of d) (rest_of e)) →
       OnOk res (WasTaken state rest_of s (record { world = w; history = h; device = d }) (record { world = w; history = k; device = e }))
-  taken rest_of s k e (Ok x) step goes = record { world = refl; goes = step; falls = goes.falls }
+  taken rest_of s k e (Ok x) step goes = record { world = refl; goes = step; rest = goes.rest; falls = goes.falls }
   taken rest_of s k e (Err x) step goes = tt
 
   pub is_thread_step : (t : ℕ) (k : List Event) (e : D) (res : Result ⊤ SysFault) → OnOk res (k ≡ h ++ thread_event w h (state d) t ∷ []) →

@@ -1,5 +1,5 @@
 -- The steps of the system by choices.
-use Rattle.std.specs.Prelude.{ℕ, ◌≡◌, ◌<◌, ◌+◌, ◌%◌, List, [], ◌∷◌, ◌++◌, length, slice_get, Some}
+use Rattle.std.specs.Prelude.{ℕ, ◌≡◌, ◌<◌, ◌≤◌, ◌+◌, ◌%◌, List, [], ◌∷◌, ◌++◌, length, slice_get, Some}
 use Rattle.dx_base.specs.declared.steps.Step.{Step}
 use Rattle.dx_base.specs.declared.steps.Step.TheVariants as step
 use Rattle.dx_base.specs.declared.hresult.Hresult.{Hresult}
@@ -34,26 +34,28 @@ IsStep w s (step.Worker q) u = u ≡ record { history = s.history; device = afte
 IsStep w s (step.Device k) u = IsDeviceStep s.history u.history s.device u.device k
 
 -- one choice: the system has not finished, and the step is the one that can be taken whose place is the choice modulo their
--- number; `free` is how many free steps the device offers
-pub record Chooses (w : World) (c : ℕ) (s u : SysState) : Type 0 where
+-- number; `free` is how many free steps the device offers, which are none where it had none left to take before
+pub record Chooses (w : World) (rest c : ℕ) (s u : SysState) : Type 0 where
   pub running : IsFinished w (state_after w s.history).desk → ⊥
   pub free : ℕ
+  pub none_free : rest ≡ 0 → free ≡ 0
   pub step : Step
   pub some : 0 < length (enabled_of w s.history s.device free)
   pub chosen : slice_get (enabled_of w s.history s.device free) (c % length (enabled_of w s.history s.device free)) ≡ Some step
   pub goes : IsStep w s step u
 
--- choices lead from one state to another by these steps
-abbrev pub Goes : World → SysState → List ℕ → List Step → SysState → Type 0
-Goes w s [] [] t = s ≡ t
-Goes w s [] (k ∷ ks) t = ⊥
-Goes w s (c ∷ cs) [] t = ⊥
-Goes w s (c ∷ cs) (k ∷ ks) t = (u : SysState) × (m : Chooses w c s u) × (m.step ≡ k) × Goes w u cs ks t
+-- choices lead from one state to another by these steps; the device had so many free steps left to take before them
+abbrev pub Goes : World → ℕ → SysState → List ℕ → List Step → SysState → Type 0
+Goes w rest s [] [] t = s ≡ t
+Goes w rest s [] (k ∷ ks) t = ⊥
+Goes w rest s (c ∷ cs) [] t = ⊥
+Goes w rest s (c ∷ cs) (k ∷ ks) t = (u : SysState) × (m : Chooses w rest c s u) × (m.step ≡ k) × Goes w rest u cs ks t
 
 -- a step of the system was taken
 pub record WasTaken {D : Type 0} (state : D → VkState) (rest_of : D → ℕ) (k : Step) (s u : SysView D) : Type 0 where
   pub world : u.world ≡ s.world
   pub goes : IsStep s.world (state_of state s) k (state_of state u)
+  pub rest : rest_of u.device ≤ rest_of s.device
   pub falls : work u.world u.history (state u.device) + rest_of u.device < work s.world s.history (state s.device) + rest_of s.device
 
 -- where a call was answered by an error, it had no effect: the device is as before, and so is the machine but for what a
@@ -64,6 +66,7 @@ AreRefusalsIdle w s u =
     (u.device ≡ s.device) × HasNoEffect (state_after w s.history) (state_after w u.history) t c
 
 -- nothing of the system has changed that a step changes
-pub record Stays {D : Type 0} (state : D → VkState) (s u : SysView D) : Type 0 where
+pub record Stays {D : Type 0} (state : D → VkState) (rest_of : D → ℕ) (s u : SysView D) : Type 0 where
   pub world : u.world ≡ s.world
   pub state_is : state_of state u ≡ state_of state s
+  pub rest : rest_of u.device ≡ rest_of s.device

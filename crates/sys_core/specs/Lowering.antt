@@ -1,5 +1,5 @@
 -- How operations of the Direct3D machine become batches of the Vulkan machine.
-use Rattle.std.specs.Prelude.{ℕ, zero, suc, ◌≡◌, ◌<◌, ◌+◌, ◌-◌, ◌/◌, ◌==◌, ◌&&◌, not, nat_lt, List, [], ◌∷◌, ◌++◌, length, map, take, slice_get, Option, Some, None, Bool, false, if◌then◌else◌}
+use Rattle.std.specs.Prelude.{ℕ, zero, suc, ◌≡◌, ◌<◌, ◌+◌, ◌-◌, ◌/◌, ◌==◌, ◌&&◌, ◌⊎◌, not, nat_lt, bit_or, List, [], ◌∷◌, ◌++◌, length, map, take, slice_get, Option, Some, None, Bool, false, if◌then◌else◌}
 use Rattle.d3d_machine.specs.declared.world.World.{World}
 use Rattle.d3d_machine.specs.declared.world.Resource.{Resource}
 use Rattle.d3d_machine.specs.declared.world.Resource.TheVariants.{Buffer}
@@ -14,7 +14,11 @@ use Rattle.vk_types.specs.declared.batches.Batch.{Batch}
 use Rattle.vk_types.specs.declared.commands.VkCommand.{VkCommand}
 use Rattle.vk_types.specs.declared.commands.VkCommand.TheVariants as vk
 use Rattle.vk_types.specs.declared.stages.Stages.{Stages}
+use Rattle.vk_types.specs.declared.accesses.Access.TheVariants.{MemoryRead, MemoryWrite, HostRead}
 use Rattle.vk_types.specs.declared.accesses.Accesses.{Accesses}
+use Rattle.vk_types.specs.declared.stages.Stage.TheVariants.{AllCommands, Host}
+use Rattle.vk_types.specs.Accesses.{access_bit}
+use Rattle.vk_types.specs.Stages.{only_stage}
 use Rattle.vk_types.specs.declared.plan.DevicePlan.{DevicePlan}
 use Rattle.vk_types.specs.declared.plan.PlanBuffer.{PlanBuffer}
 
@@ -48,6 +52,10 @@ plan_of_world w = record {
   timelines = length w.queues + 1;
 }
 
+-- a device has no plan, or that of the world
+abbrev pub HasPlanAtMost : World → Option DevicePlan → Type 0
+HasPlanAtMost w plan = (plan ≡ None) ⊎ (plan ≡ Some (plan_of_world w))
+
 -- the start-up batch: the first queue's batch 0, which sets the start-up timeline to 1
 abbrev pub startup : World → Batch
 startup w = record { queue = 0; number = 0; waits = []; commands = []; sets = (length w.queues, 1) ∷ [] }
@@ -56,22 +64,22 @@ startup w = record { queue = 0; number = 0; waits = []; commands = []; sets = (l
 abbrev pub opening_batches : World → List Batch
 opening_batches w = if nat_lt 0 (length w.queues) then startup w ∷ [] else []
 
--- the sets of one stage
+-- the stages that the barriers round an execute name: all stages of the device, and the host's (Vulkan 1.3, 7.1.2)
 abbrev pub all_commands : Stages
-all_commands = record { 0 = 1 }
+all_commands = only_stage AllCommands
 
 abbrev pub host : Stages
-host = record { 0 = 8 }
+host = only_stage Host
 
--- the sets of accesses that the barriers round an execute have
+-- the accesses that they name: writes of memory, reads and writes of memory, and reads of the host (Vulkan 1.3, 7.1.3)
 abbrev pub memory_write : Accesses
-memory_write = record { 0 = 2 }
+memory_write = record { 0 = access_bit MemoryWrite }
 
 abbrev pub memory_read_write : Accesses
-memory_read_write = record { 0 = 3 }
+memory_read_write = record { 0 = bit_or (access_bit MemoryRead) (access_bit MemoryWrite) }
 
 abbrev pub host_read : Accesses
-host_read = record { 0 = 256 }
+host_read = record { 0 = access_bit HostRead }
 
 -- the barrier before an execute: all that was written before is seen by its commands
 abbrev pub leading : VkCommand

@@ -85,6 +85,7 @@ pub(crate) fn device_step<D: VkDevice>(
     ensures rest_falls { D.rest_of device.new ≤ D.rest_of device.old }
     ensures same { OnErr result (history.new.items ≡ history.old.items) }
     ensures same_state { OnErr result (D.state device.new ≡ D.state device.old) }
+    ensures same_rest { OnErr result (D.rest_of device.new ≡ D.rest_of device.old) }
     ensures faults { D.faults device.old ≤ D.faults device.new }
     ensures cause { HasCause (D.faults device.old) (D.faults device.new) result }
 {

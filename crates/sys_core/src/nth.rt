@@ -50,7 +50,8 @@ fn holding_queues(world: &World, parts: &Parts) -> usize
 /// How many steps of the device can be taken that have a number.
 fn device_steps<D: VkDevice>(device: &D) -> usize
     requires plan { IsSome (D.plan_of device.now) }
-    ensures { result ≡ numbered (steps_offered (D.state device.now) (D.offered device.now)) }
+    ensures count { result ≡ numbered (steps_offered (D.state device.now) (D.offered device.now)) }
+    ensures none_at_rest { D.rest_of device.now ≡ 0 → D.offered device.now ≡ 0 }
 {
     device.enabled().min(NUMBERED)
 }
@@ -63,7 +64,8 @@ pub(crate) fn count_steps<D: VkDevice>(
     device: &D,
 ) -> usize
     requires keeps { Keeps D.state D.plan_of world.now history.now.items parts.now device.now }
-    ensures { result ≡ length (enabled_of world.now history.now.items (D.state device.now) (D.offered device.now)) }
+    ensures count { result ≡ length (enabled_of world.now history.now.items (D.state device.now) (D.offered device.now)) }
+    ensures none_at_rest { D.rest_of device.now ≡ 0 → D.offered device.now ≡ 0 }
 {
     let _events = history.len();
     ready_threads(world, parts) + (holding_queues(world, parts) + device_steps(device))

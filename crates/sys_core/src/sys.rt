@@ -10,7 +10,7 @@ ghost use Rattle.sys_core.specs.Keeps.{Keeps, IsSystem};
 ghost use Rattle.sys_core.specs.Opened.{opened};
 ghost use Rattle.sys_core.specs.Over.{IsOver};
 ghost use Rattle.sys_core.specs.Serving.{HasCause, HasFaultCause};
-ghost use Rattle.sys_core.specs.Lowering.{plan_of_world, opening_batches, startup};
+ghost use Rattle.sys_core.specs.Lowering.{HasPlanAtMost, plan_of_world, opening_batches, startup};
 ghost use Rattle.sys_core.specs.Steps.{after_submits, enabled_of, is_ready_thread, is_ready_worker};
 ghost use Rattle.vk_port.specs.Offers.{steps_offered};
 ghost use Rattle.vk_port.specs.VkState.{first_state};
@@ -59,6 +59,7 @@ fn submit_startup<D: VkDevice>(world: &World, device: &mut D, batch: Batch) -> R
     ensures state { OnOk result (D.state device.new ≡ after_submits (D.state device.old) (opening_batches world.now)) }
     ensures same { OnErr result (D.state device.new ≡ D.state device.old) }
     ensures plan { D.plan_of device.new ≡ D.plan_of device.old }
+    ensures rest { D.rest_of device.new ≡ D.rest_of device.old }
     ensures faults { D.faults device.old ≤ D.faults device.new }
     ensures cause { HasCause (D.faults device.old) (D.faults device.new) result }
 {
@@ -77,7 +78,9 @@ fn begin<D: VkDevice>(alloc: Global, world: &World, device: &mut D) -> Result<Pa
     ensures keeps { IfOk result (λ parts. Keeps D.state D.plan_of world.now [] parts device.new) }
     ensures whole { OnOk result (IsWhole world.now [] (D.state device.new)) }
     ensures opened { OnOk result (D.state device.new ≡ opened world.now) }
+    ensures rest { D.rest_of device.new ≡ D.rest_of device.old }
     ensures no_batch { OnErr result ((D.state device.new).journal ≡ []) }
+    ensures plan { OnErr result (HasPlanAtMost world.now (D.plan_of device.new)) }
     ensures faults { D.faults device.old ≤ D.faults device.new }
     ensures cause { HasCause (D.faults device.old) (D.faults device.new) result }
 {
@@ -91,7 +94,7 @@ fn begin<D: VkDevice>(alloc: Global, world: &World, device: &mut D) -> Result<Pa
 
 impl<D: VkDevice> Sys<D> {
     /// The system of a world before any call. The device is new; it gets the world's objects and the start-up batch.
-    /// Refused, it is given back without a batch.
+    /// Refused, it is given back without a batch, and with no plan but the world's.
     pub fn new(alloc: Global, world: World, device: D) -> Result<Sys<D>, (D, SysFault)>
         requires world { IsWorld world }
         requires no_plan { D.plan_of device ≡ None }
@@ -101,8 +104,12 @@ impl<D: VkDevice> Sys<D> {
         ensures opened { IfOk result (λ sys. D.state sys.device ≡ opened world) }
         ensures system { IfOk result (λ sys. IsSystem sys.world sys.history (D.state sys.device)) }
         ensures whole { IfOk result (λ sys. IsWhole sys.world sys.history (D.state sys.device)) }
+        ensures rest { IfOk result (λ sys. D.rest_of sys.device ≡ D.rest_of device) }
         ensures faults { IfOk result (λ sys. D.faults device ≤ D.faults sys.device) }
         ensures no_batch { IfErr result (λ p. (D.state p.0).journal ≡ []) }
+        ensures plan { IfErr result (λ p. HasPlanAtMost world (D.plan_of p.0)) }
+        ensures rest_back { IfErr result (λ p. D.rest_of p.0 ≡ D.rest_of device) }
+        ensures faults_back { IfErr result (λ p. D.faults device ≤ D.faults p.0) }
         ensures cause { IfErr result (λ p. HasFaultCause p.1 (D.faults device) (D.faults p.0)) }
     {
         let mut device = device;
@@ -118,9 +125,10 @@ impl<D: VkDevice> Sys<D> {
         }
     }
 
-    /// How many steps can be taken.
+    /// How many steps can be taken. A device that has no free step left to take offers none.
     pub fn enabled(&self) -> usize
-        ensures { result ≡ length (enabled_of self.now.world self.now.history (D.state self.now.device) (D.offered self.now.device)) }
+        ensures count { result ≡ length (enabled_of self.now.world self.now.history (D.state self.now.device) (D.offered self.now.device)) }
+        ensures none_at_rest { D.rest_of self.now.device ≡ 0 → D.offered self.now.device ≡ 0 }
     {
         count_steps(&self.world, &self.history, &self.parts, &self.device)
     }
@@ -142,7 +150,7 @@ impl<D: VkDevice> Sys<D> {
         ensures refusals { OnOk result (AreRefusalsIdle self.old.world (state_of D.state self.old) (state_of D.state self.new)) }
         ensures system { IsSystem self.new.world self.new.history (D.state self.new.device) }
         ensures whole { IsWhole self.new.world self.new.history (D.state self.new.device) }
-        ensures stays { OnErr result (Stays D.state self.old self.new) }
+        ensures stays { OnErr result (Stays D.state D.rest_of self.old self.new) }
         ensures faults { D.faults self.old.device ≤ D.faults self.new.device }
         ensures cause { HasCause (D.faults self.old.device) (D.faults self.new.device) result }
     {
@@ -163,7 +171,7 @@ impl<D: VkDevice> Sys<D> {
         ensures taken { OnOk result (WasTaken D.state D.rest_of (step.Worker queue.0) self.old self.new) }
         ensures system { IsSystem self.new.world self.new.history (D.state self.new.device) }
         ensures whole { IsWhole self.new.world self.new.history (D.state self.new.device) }
-        ensures stays { OnErr result (Stays D.state self.old self.new) }
+        ensures stays { OnErr result (Stays D.state D.rest_of self.old self.new) }
         ensures faults { D.faults self.old.device ≤ D.faults self.new.device }
         ensures cause { HasCause (D.faults self.old.device) (D.faults self.new.device) result }
     {
@@ -183,7 +191,7 @@ impl<D: VkDevice> Sys<D> {
         ensures taken { OnOk result (WasTaken D.state D.rest_of (step.Device k) self.old self.new) }
         ensures system { IsSystem self.new.world self.new.history (D.state self.new.device) }
         ensures whole { IsWhole self.new.world self.new.history (D.state self.new.device) }
-        ensures stays { OnErr result (Stays D.state self.old self.new) }
+        ensures stays { OnErr result (Stays D.state D.rest_of self.old self.new) }
         ensures faults { D.faults self.old.device ≤ D.faults self.new.device }
         ensures cause { HasCause (D.faults self.old.device) (D.faults self.new.device) result }
     {
@@ -222,6 +230,13 @@ impl<D: VkDevice> Sys<D> {
         ensures { IfOk result (λ values. values ≡ (state_after self.now.world self.now.history).desk.fences) }
     {
         last_values(self.alloc, self.parts.fences.as_slice())
+    }
+
+    /// The device.
+    pub fn into_device(self) -> D
+        ensures { result ≡ self.device }
+    {
+        self.device
     }
 
     /// What happened, and the device.

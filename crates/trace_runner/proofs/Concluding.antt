@@ -26,13 +26,16 @@ use Rattle.trace_runner.specs.declared.words.Words.{Words}
 use Rattle.trace_runner.specs.Report.{Given, Left, IsRead, AreGood, IsUntouched, IsUnderway, IsThrough, IsLeft, Ran, RanTrace, IsRunOf, OfTrace, IsStopped, Says, ended_by, status_at, Ends, Writes, IsWritten, IsReport, IsUsageAt, IsRefusalAt, is_shown, refused_in}
 use Rattle.trace_runner.specs.Steps.{Went}
 use Rattle.trace_runner.specs.Words.{said_by}
-use Rattle.trace_runner.proofs.OfRounds.{rounds_are_calm}
+use Rattle.d3d_machine.proofs.Places.{runs_follow_scripts}
+use Rattle.sys_core.specs.Laws.{CanGoOn}
+use Rattle.trace_runner.proofs.OfRounds.{rounds_are_calm, rounds_go_on}
 
 -- a run that took steps
-underway : (w : World) (l : Left) → Went w l.choices l.taken l.history l.device → IsSystem w l.history l.device → IsWhole w l.history l.device → IsUnderway w l
+underway : (w : World) (l : Left) → Went w l.rest l.choices l.taken l.history l.device → IsSystem w l.history l.device → IsWhole w l.history l.device → IsUnderway w l
 underway w l went system whole = record {
   went = went;
   run = system.run;
+  scripts = runs_follow_scripts w l.history system.run;
   calm = whole.run;
   rounds = λ of. whole.run (rounds_are_calm w l.history of system.run);
   device = system.device;
@@ -41,37 +44,38 @@ underway w l went system whole = record {
 through : (w : World) (l : Left) (values : List ℕ) → IsUnderway w l → length l.choices ≡ length l.taken → l.fences ≡ values → values ≡ (state_after w l.history).desk.fences → IsThrough w l
 through w l values under equal is are = record { underway = under; equal = equal; values = is ∙ are }
 
-ran_over : (w : World) (l : Left) (free : ℕ) (o : Over) (s : Status) → IsSystem w l.history l.device → IsThrough w l → IsOver w l.history l.device free o → (o ≡ over.Done) ⊎ (o ≡ over.Stalled) →
+ran_over : (w : World) (l : Left) (o : Over) (s : Status) → IsSystem w l.history l.device → IsThrough w l → IsOver w l.history l.device l.offered o → (o ≡ over.Done) ⊎ (o ≡ over.Stalled) →
     s ≡ status_at o → Ran w l s
-ran_over w l free over.Running s system is far last at = elim last [
+ran_over w l over.Running s system is far last at = elim last [
   | inl e ↦ absurd (cc)
   | inr e ↦ absurd (cc)
 ]
-ran_over w l free over.Done s system is far last at = subst (Ran w l) (sym at) (record { through = is; finished = far })
-ran_over w l free over.Stalled s system is far last at =
+ran_over w l over.Done s system is far last at = subst (Ran w l) (sym at) (record { through = is; finished = far })
+ran_over w l over.Stalled s system is far last at =
+    let stuck : CanGoOn w l.history → ⊥ = λ can. omega (arith, far.1, machine_goes w l.history l.device l.offered system.world system.run system.device can) in
     subst (Ran w l) (sym at)
     (record {
       through = is;
       unfinished = far.0;
-      free = free;
       no_step = far.1;
-      stuck = λ can. omega (arith, far.1, machine_goes w l.history l.device free system.world system.run system.device can);
+      stuck = stuck;
+      no_rounds = λ of. elim (rounds_go_on w l.history of system.run) [ inl done ↦ far.0 done | inr can ↦ stuck can ];
     })
-ran_over w l free over.Broken s system is far last at = absurd far
-ran_over w l free over.Torn s system is far last at = absurd far
+ran_over w l over.Broken s system is far last at = absurd far
+ran_over w l over.Torn s system is far last at = absurd far
 
 ran_fault : (w : World) (l : Left) (e : SysFault) (s : Status) → IsUnderway w l → HasFaultCause e l.faults.0 l.faults.1 → s ≡ ended_by e → Ran w l s
 ran_fault w l fault.Memory s under cause at = subst (Ran w l) (sym at) (inr under)
 ran_fault w l fault.Lost s under cause at = subst (Ran w l) (sym at) (cause, inr under)
 
 -- the run is finished or stalled where no step is left, and else cut short
-pub ran_end : (w : World) (l : Left) (free : ℕ) (s : Status) (end : Result Over SysFault) → Went w l.choices l.taken l.history l.device → IsSystem w l.history l.device → IsWhole w l.history l.device →
-    IfOk end (λ o. IsOver w l.history l.device free o) → IfOk end (λ o. (o ≡ over.Done) ⊎ (o ≡ over.Stalled)) → OnOk end (length l.choices ≡ length l.taken) →
+pub ran_end : (w : World) (l : Left) (s : Status) (end : Result Over SysFault) → Went w l.rest l.choices l.taken l.history l.device → IsSystem w l.history l.device → IsWhole w l.history l.device →
+    IfOk end (λ o. IsOver w l.history l.device l.offered o) → IfOk end (λ o. (o ≡ over.Done) ⊎ (o ≡ over.Stalled)) → OnOk end (length l.choices ≡ length l.taken) →
     HasCause l.faults.0 l.faults.1 end → Ends end (state_after w l.history).desk.fences (s, l.fences) → Ran w l s
-ran_end w l free s (Ok o) went system whole far last equal cause (inl done) =
-    ran_over w l free o s system (through w l (state_after w l.history).desk.fences (underway w l went system whole) equal done.1 refl) far last done.0
-ran_end w l free s (Ok o) went system whole far last equal cause (inr memory) = subst (Ran w l) (sym memory) (inr (underway w l went system whole))
-ran_end w l free s (Err e) went system whole far last equal cause at = ran_fault w l e s (underway w l went system whole) cause at
+ran_end w l s (Ok o) went system whole far last equal cause (inl done) =
+    ran_over w l o s system (through w l (state_after w l.history).desk.fences (underway w l went system whole) equal done.1 refl) far last done.0
+ran_end w l s (Ok o) went system whole far last equal cause (inr memory) = subst (Ran w l) (sym memory) (inr (underway w l went system whole))
+ran_end w l s (Err e) went system whole far last equal cause at = ran_fault w l e s (underway w l went system whole) cause at
 
 -- a run that was refused before its first step
 pub ran_none : (w : World) (l : Left) (e : SysFault) (s : Status) → IsUntouched l → HasFaultCause e l.faults.0 l.faults.1 → s ≡ ended_by e → Ran w l s

@@ -5,7 +5,7 @@ use Rattle.dx_base.specs.Faults.{HasRisen}
 use Rattle.dx_base.specs.declared.steps.Step.{Step}
 use Rattle.d3d_machine.specs.declared.world.World.{World}
 use Rattle.d3d_machine.specs.declared.events.Event.{Event}
-use Rattle.d3d_machine.specs.Play.{IsRun, IsRunButWords, IsFinished, state_after}
+use Rattle.d3d_machine.specs.Play.{AreOfScripts, IsRun, IsRunButWords, IsFinished, state_after}
 use Rattle.text_io.specs.Prefix.{AppendsPart}
 use Rattle.trace_text.specs.declared.outcome.Outcome.{Outcome}
 use Rattle.trace_text.specs.declared.status.Cause.{Cause}
@@ -35,15 +35,17 @@ pub record Given : Type 0 where
   pub told : Option (List ℕ)
   pub source : ℕ × ℕ
 
--- what a run left: the counts of faults of the device before and after, the choices, the steps taken, the history, the fences'
--- last values, and the device
+-- what a run left: the counts of faults of the device before and after, how many free steps it had left to take before, the
+-- choices, the steps taken, the history, the fences' last values, the device, and how many free steps it offers
 pub record Left : Type 0 where
   pub faults : ℕ × ℕ
+  pub rest : ℕ
   pub choices : List ℕ
   pub taken : List Step
   pub history : List Event
   pub fences : List ℕ
   pub device : VkState
+  pub offered : ℕ
 
 -- a text that says something: the one that the source had, where it tells it
 pub record IsRead (told : Option (List ℕ)) (v : Value) : Type 0 where
@@ -63,11 +65,13 @@ pub record IsUntouched (l : Left) : Type 0 where
   pub events : l.history ≡ []
   pub batches : l.device.journal ≡ []
 
--- the choices lead to the history and the device by the steps that were taken; the history is a run but for words, and a
--- run with its words where it is calm, and so in a world of rounds; the device has the batches that its operations lower to
+-- the choices lead to the history and the device by the steps that were taken; the history is a run but for words, in which
+-- each thread's calls are the first of its script, and a run with its words where it is calm, and so in a world of rounds;
+-- the device has the batches that its operations lower to
 pub record IsUnderway (w : World) (l : Left) : Type 0 where
-  pub went : Went w l.choices l.taken l.history l.device
+  pub went : Went w l.rest l.choices l.taken l.history l.device
   pub run : IsRunButWords w l.history
+  pub scripts : AreOfScripts w l.history
   pub calm : IsCalm w l.history → IsRun w l.history
   pub rounds : IsOfRounds w → IsRun w l.history
   pub device : IsDevice w l.history l.device
@@ -87,13 +91,14 @@ pub record IsDone (w : World) (l : Left) : Type 0 where
   pub through : IsThrough w l
   pub finished : IsFinished w (state_after w l.history).desk
 
--- a script or a queue is not finished, and neither the system nor the Direct3D machine has a step
+-- a script or a queue is not finished, and neither the system nor the Direct3D machine has a step; so the world is none of
+-- rounds
 pub record IsStalled (w : World) (l : Left) : Type 0 where
   pub through : IsThrough w l
   pub unfinished : IsFinished w (state_after w l.history).desk → ⊥
-  pub free : ℕ
-  pub no_step : length (enabled_of w l.history l.device free) ≡ 0
+  pub no_step : length (enabled_of w l.history l.device l.offered) ≡ 0
   pub stuck : CanGoOn w l.history → ⊥
+  pub no_rounds : IsOfRounds w → ⊥
 
 -- the run of a world: it was finished or stalled, or cut short by the device or for memory
 abbrev pub Ran : World → Left → Status → Type 0
@@ -136,14 +141,16 @@ Says g t l status.DeviceLost = AreGood g.words × OfTrace (IsRunOf g.told l stat
 Says g t l status.Memory = IsUntouched l ⊎ (AreGood g.words × OfTrace (IsRunOf g.told l status.Memory) t)
 
 -- what a run left, by its parts
-abbrev pub left_by : Log → (ℕ × ℕ) → VkState → Outcome → Left
-left_by log faults device o = record {
+abbrev pub left_by : Log → (ℕ × ℕ) → (ℕ × ℕ) → VkState → Outcome → Left
+left_by log faults free device o = record {
   faults = faults;
+  rest = free.0;
   choices = log.choices.items;
   taken = log.taken.items;
   history = o.history;
   fences = o.fences;
   device = device;
+  offered = free.1;
 }
 
 -- the world of a trace was run, or was not for want of memory

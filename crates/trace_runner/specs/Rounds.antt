@@ -1,5 +1,5 @@
 -- Worlds of rounds: in each round four words are written, copied and read, and the host waits for the copy before it reads.
-use Rattle.std.specs.Prelude.{ℕ, ◌≡◌, ◌<◌, List, [], ◌∷◌, length, flat_map, Some}
+use Rattle.std.specs.Prelude.{ℕ, ◌≡◌, ◌<◌, List, [], ◌∷◌, length, flat_map, codes, Some}
 use Rattle.dx_base.specs.declared.kinds.Home.TheVariants as home
 use Rattle.dx_base.specs.declared.kinds.ListType.TheVariants.{Direct}
 use Rattle.d3d_machine.specs.declared.calls.Call.{Call}
@@ -7,6 +7,9 @@ use Rattle.d3d_machine.specs.declared.calls.Call.TheVariants as call
 use Rattle.d3d_machine.specs.declared.calls.Record.TheVariants.{Copy}
 use Rattle.d3d_machine.specs.declared.world.Resource.TheVariants.{Buffer}
 use Rattle.d3d_machine.specs.declared.world.World.{World}
+use Rattle.trace_text.specs.declared.object.Declared.{Declared}
+use Rattle.trace_text.specs.declared.object.Declared.TheVariants as declared
+use Rattle.trace_text.specs.Values.{Value}
 
 -- a round: the words that it writes, and the value that it signals
 pub record Round : Type 0 where
@@ -41,6 +44,25 @@ world_with calls = record {
 -- the world whose thread makes the calls of rounds
 abbrev pub world_of_rounds : List Round → World
 world_of_rounds rounds = world_with (flat_map calls_of rounds)
+
+-- the objects of these worlds as a trace declares them, and the names that it gives them and its thread
+abbrev pub objects_of_rounds : List Declared
+objects_of_rounds =
+    declared.Queue Direct
+    ∷ declared.Fence 0
+    ∷ declared.Buffer home.Upload 16
+    ∷ declared.Buffer home.Readback 16
+    ∷ declared.Allocator Direct
+    ∷ declared.List Direct
+    ∷ declared.List Direct
+    ∷ []
+
+abbrev pub names_of_rounds : List (List ℕ)
+names_of_rounds = codes "q" ∷ codes "f" ∷ codes "u" ∷ codes "b" ∷ codes "a" ∷ codes "l" ∷ codes "m" ∷ codes "t" ∷ []
+
+-- what a trace of rounds says
+abbrev pub value_of_rounds : List Round → Value
+value_of_rounds rounds = record { names = names_of_rounds; declared = objects_of_rounds; scripts = flat_map calls_of rounds ∷ [] }
 
 -- a round has a value above that of the round before, and four words
 pub record IsRoundAbove (v : ℕ) (r : Round) : Type 0 where

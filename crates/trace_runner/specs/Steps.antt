@@ -1,5 +1,5 @@
 -- A step that a choice names, and what a refused one leaves.
-use Rattle.std.specs.Prelude.{ℕ, ◌≡◌, ◌<◌, ◌+◌, ◌⊎◌, List, [], ◌∷◌, ◌++◌, length, take}
+use Rattle.std.specs.Prelude.{ℕ, ◌≡◌, ◌<◌, ◌≤◌, ◌+◌, ◌⊎◌, List, [], ◌∷◌, ◌++◌, length, take}
 use Rattle.dx_base.specs.declared.steps.Step.{Step}
 use Rattle.d3d_machine.specs.declared.world.World.{World}
 use Rattle.d3d_machine.specs.declared.events.Event.{Event}
@@ -15,15 +15,16 @@ pub record TookStep {D : Type 0} (state : D → VkState) (rest_of : D → ℕ) (
   pub choice : ℕ
   pub step : Step
   pub world : u.world ≡ s.world
-  pub chooses : Chooses s.world choice (state_of state s) (state_of state u)
+  pub chooses : Chooses s.world (rest_of s.device) choice (state_of state s) (state_of state u)
   pub named : chooses.step ≡ step
   pub choices : after.choices.items ≡ before.choices.items ++ choice ∷ []
   pub taken : after.taken.items ≡ before.taken.items ++ step ∷ []
+  pub rest : rest_of u.device ≤ rest_of s.device
   pub falls : work u.world u.history (state u.device) + rest_of u.device < work s.world s.history (state s.device) + rest_of s.device
 
 -- no step was taken; a choice may have been drawn
-pub record TookNone {D : Type 0} (state : D → VkState) (s u : SysView D) (before after : Log) : Type 0 where
-  pub stays : Stays state s u
+pub record TookNone {D : Type 0} (state : D → VkState) (rest_of : D → ℕ) (s u : SysView D) (before after : Log) : Type 0 where
+  pub stays : Stays state rest_of s u
   pub drawn : (after.choices.items ≡ before.choices.items) ⊎ ((c : ℕ) × (after.choices.items ≡ before.choices.items ++ c ∷ []))
   pub taken : after.taken.items ≡ before.taken.items
 
@@ -31,8 +32,8 @@ pub record TookNone {D : Type 0} (state : D → VkState) (s u : SysView D) (befo
 abbrev pub opening : World → SysState
 opening w = record { history = []; device = opened w }
 
--- the first choices, as many as steps were taken, lead from the opening state by these steps; one choice more may have
--- been drawn
-pub record Went (w : World) (choices : List ℕ) (taken : List Step) (h : List Event) (v : VkState) : Type 0 where
-  pub goes : Goes w (opening w) (take (length taken) choices) taken (record { history = h; device = v })
+-- the first choices, as many as steps were taken, lead from the opening state by these steps, on a device that had so many
+-- free steps left to take; one choice more may have been drawn
+pub record Went (w : World) (rest : ℕ) (choices : List ℕ) (taken : List Step) (h : List Event) (v : VkState) : Type 0 where
+  pub goes : Goes w rest (opening w) (take (length taken) choices) taken (record { history = h; device = v })
   pub drawn : (length choices ≡ length taken) ⊎ (length choices ≡ length taken + 1)

@@ -1,6 +1,12 @@
 //! Laws of runs of rounds. The functions do nothing.
 
-ghost use Rattle.trace_runner.specs.Laws.{RoundsAreCalm, RoundsGoOn};
+ghost use Rattle.trace_runner.specs.Laws.{RoundsAreCalm, RoundsGoOn, TracesOfRoundsHaveTheirWorlds};
+
+/// The world of a trace of rounds, with the objects of the first example, is a world of rounds.
+#[tactic(auto, unfolding(trace_text::specs::WorldOf::world_of_value, trace_text::specs::WorldOf::objects_of))]
+pub fn traces_of_rounds_have_their_worlds()
+    ensures { TracesOfRoundsHaveTheirWorlds }
+{}
 
 /// After each run of a world of rounds all is finished, or the Direct3D machine can go on.
 pub fn runs_of_rounds_go_on()

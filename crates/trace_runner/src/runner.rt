@@ -96,20 +96,22 @@ fn ending_of<D: VkDevice>(
 
 /// The end of a system that took its steps.
 fn finish<D: VkDevice>(alloc: Global, sys: Sys<D>, end: Result<Over, SysFault>, log: &Log) -> Run<D>
-    requires went { Went sys.world log.now.choices.items log.now.taken.items sys.history (D.state sys.device) }
     requires system { IsSystem sys.world sys.history (D.state sys.device) }
     requires whole { IsWhole sys.world sys.history (D.state sys.device) }
     requires over { IfOk end (λ o. IsOver sys.world sys.history (D.state sys.device) (D.offered sys.device) o) }
     requires last { IfOk end (λ o. (o ≡ over.Done) ⊎ (o ≡ over.Stalled)) }
     requires equal { OnOk end (length log.now.choices.items ≡ length log.now.taken.items) }
-    ensures { (before : ℕ) → HasCause before (D.faults sys.device) end →
+    ensures { (before rest : ℕ) → HasCause before (D.faults sys.device) end →
+        Went sys.world rest log.now.choices.items log.now.taken.items sys.history (D.state sys.device) →
         Ran sys.world (record {
           faults = (before, D.faults result.device);
+          rest = rest;
           choices = log.now.choices.items;
           taken = log.now.taken.items;
           history = result.history.items;
           fences = result.fences;
           device = D.state result.device;
+          offered = D.offered result.device;
         }) result.status }
 {
     let _choices = log.choices.len();
@@ -139,11 +141,13 @@ fn run_world<D: VkDevice, C: Chooser>(
     requires taken { log.old.taken.items ≡ [] }
     ensures ran { Ran world (record {
       faults = (D.faults device, D.faults result.device);
+      rest = D.rest_of device;
       choices = log.new.choices.items;
       taken = log.new.taken.items;
       history = result.history.items;
       fences = result.fences;
       device = D.state result.device;
+      offered = D.offered result.device;
     }) result.status }
     ensures given { C.given choices.new ≡ log.new.choices.items }
     ensures started { C.started choices.new ≡ C.started choices.old }
@@ -195,7 +199,7 @@ fn run_trace<D: VkDevice, C: Chooser>(
     requires no_plan { D.plan_of device ≡ None }
     requires new { (D.state device).journal ≡ [] }
     requires given { C.given choices.old ≡ [] }
-    ensures ran { RanTrace (seen trace) (option_map seen result.trace) (left_by result.log (D.faults device, D.faults result.device) (D.state result.device) result.outcome) result.outcome.status }
+    ensures ran { RanTrace (seen trace) (option_map seen result.trace) (left_by result.log (D.faults device, D.faults result.device) (D.rest_of device, D.offered result.device) (D.state result.device) result.outcome) result.outcome.status }
     ensures shown { result.outcome.shown ≡ shown }
     ensures refused { result.outcome.refused ≡ refused_in (option_map seen result.trace) }
     ensures given { C.given choices.new ≡ result.log.choices.items }
@@ -241,7 +245,9 @@ fn ran<S: Source, D: VkDevice, C: Chooser>(
       words = map string_bytes words.now;
       told = S.left source.old;
       source = (S.faults source.old, S.faults source.new);
-    }) (option_map seen result.trace) (left_by result.log (D.faults device, D.faults result.device) (D.state result.device) result.outcome) result.outcome.status }
+    }) (option_map seen result.trace) (left_by result.log (D.faults device, D.faults result.device) (D.rest_of device, D.offered result.device) (D.state result.device) result.outcome) result.outcome.status }
+    ensures unread { IfErr (said_by (map string_bytes words.now)) (λ _. source.new ≡ source.old) }
+    ensures undrawn { IfErr (said_by (map string_bytes words.now)) (λ _. choices.new ≡ choices.old) }
     ensures shown { result.outcome.shown ≡ is_shown (said_by (map string_bytes words.now)) }
     ensures refused { result.outcome.refused ≡ refused_in (option_map seen result.trace) }
     ensures started { IfOk (said_by (map string_bytes words.now)) (λ said. C.started choices.new ≡ Some (number_said said)) }
@@ -345,12 +351,16 @@ pub fn simulate<S: Source, K: Sink, D: VkDevice, C: Chooser>(
       source = (S.faults source.old, S.faults source.new);
     }) (K.faults sink.old, K.faults sink.new) (K.held sink.old) (K.held sink.new) (λ fences. record {
       faults = (D.faults device, D.faults result.device);
+      rest = D.rest_of device;
       choices = result.choices.items;
       taken = result.taken.items;
       history = result.history.items;
       fences = fences;
       device = D.state result.device;
+      offered = D.offered result.device;
     }) result.status }
+    ensures unread { IfErr (said_by (map string_bytes words.now)) (λ _. source.new ≡ source.old) }
+    ensures undrawn { IfErr (said_by (map string_bytes words.now)) (λ _. choices.new ≡ choices.old) }
     ensures usage { IfErr (said_by (map string_bytes words.now)) (λ k. IsUsageAt k result.status) }
     ensures refused { IfOk (said_by (map string_bytes words.now)) (λ _. IfSome (S.left source.old) (λ all. IfErr (value_of all) (λ p. IsRefusalAt p result.status))) }
     ensures started { IfOk (said_by (map string_bytes words.now)) (λ said. C.started choices.new ≡ Some (number_said said)) }

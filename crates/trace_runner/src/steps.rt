@@ -1,6 +1,6 @@
 //! The steps of a run, by choices.
 
-ghost use Rattle.std.specs.Prelude.{◌≡◌, ◌<◌, ◌≤◌, ◌⊎◌, length, OnOk, OnErr, IfOk};
+ghost use Rattle.std.specs.Prelude.{ℕ, ◌≡◌, ◌<◌, ◌≤◌, ◌⊎◌, length, OnOk, OnErr, IfOk};
 ghost use Rattle.d3d_machine.specs.Play.{IsFinished, state_after};
 ghost use Rattle.sys_core.specs.Ahead.{IsWhole};
 ghost use Rattle.sys_core.specs.Goes.{WasTaken, Stays, state_of};
@@ -21,7 +21,7 @@ use vk_port::VkDevice;
 fn take_step<D: VkDevice>(sys: &mut Sys<D>, step: Step) -> Result<(), SysFault>
     requires { CanBeTaken sys.old.world sys.old.history (D.state sys.old.device) (D.offered sys.old.device) step }
     ensures taken { OnOk result (WasTaken D.state D.rest_of step sys.old sys.new) }
-    ensures stays { OnErr result (Stays D.state sys.old sys.new) }
+    ensures stays { OnErr result (Stays D.state D.rest_of sys.old sys.new) }
     ensures system { IsSystem sys.new.world sys.new.history (D.state sys.new.device) }
     ensures whole { IsWhole sys.new.world sys.new.history (D.state sys.new.device) }
     ensures faults { D.faults sys.old.device ≤ D.faults sys.new.device }
@@ -46,7 +46,7 @@ fn choose_step<D: VkDevice, C: Chooser>(
     requires system { IsSystem sys.old.world sys.old.history (D.state sys.old.device) }
     requires whole { IsWhole sys.old.world sys.old.history (D.state sys.old.device) }
     ensures took { OnOk result (TookStep D.state D.rest_of sys.old sys.new log.old log.new) }
-    ensures none { OnErr result (TookNone D.state sys.old sys.new log.old log.new) }
+    ensures none { OnErr result (TookNone D.state D.rest_of sys.old sys.new log.old log.new) }
     ensures system { IsSystem sys.new.world sys.new.history (D.state sys.new.device) }
     ensures whole { IsWhole sys.new.world sys.new.history (D.state sys.new.device) }
     ensures given { C.given choices.old ≡ log.old.choices.items → C.given choices.new ≡ log.new.choices.items }
@@ -69,7 +69,6 @@ pub(crate) fn take_steps<D: VkDevice, C: Chooser>(
     choices: &mut C,
     log: &mut Log,
 ) -> Result<Over, SysFault>
-    requires went { Went sys.old.world log.old.choices.items log.old.taken.items sys.old.history (D.state sys.old.device) }
     requires equal { length log.old.choices.items ≡ length log.old.taken.items }
     requires system { IsSystem sys.old.world sys.old.history (D.state sys.old.device) }
     requires whole { IsWhole sys.old.world sys.old.history (D.state sys.old.device) }
@@ -77,7 +76,8 @@ pub(crate) fn take_steps<D: VkDevice, C: Chooser>(
     ensures over { IfOk result (λ o. IsOver sys.new.world sys.new.history (D.state sys.new.device) (D.offered sys.new.device) o) }
     ensures ended { IfOk result (λ o. (o ≡ over.Done) ⊎ (o ≡ over.Stalled)) }
     ensures equal { OnOk result (length log.new.choices.items ≡ length log.new.taken.items) }
-    ensures went { Went sys.new.world log.new.choices.items log.new.taken.items sys.new.history (D.state sys.new.device) }
+    ensures went { (rest : ℕ) → D.rest_of sys.old.device ≤ rest → Went sys.old.world rest log.old.choices.items log.old.taken.items sys.old.history (D.state sys.old.device) →
+        Went sys.new.world rest log.new.choices.items log.new.taken.items sys.new.history (D.state sys.new.device) }
     ensures world { sys.new.world ≡ sys.old.world }
     ensures system { IsSystem sys.new.world sys.new.history (D.state sys.new.device) }
     ensures whole { IsWhole sys.new.world sys.new.history (D.state sys.new.device) }

@@ -10,10 +10,10 @@ pub overflow_add-result-2 : goal.overflow_add-result-2
 overflow_add-result-2 g c =
     let fits =
     nth.count_fits g.D.VkDevice.state g.D.VkDevice.plan_of c.args.world.now c.args.history.now.items c.args.parts.now c.args.device.now c.requires.keeps (g.D.VkDevice.offered c.args.device.now) c.ready_threads.result c.holding_queues.result c.device_steps.result
-    c.ready_threads.ensures c.holding_queues.ensures c.device_steps.ensures in
+    c.ready_threads.ensures c.holding_queues.ensures c.device_steps.ensures.count in
     omega (arith, fits)
 
-pub returns : goal.returns
-returns g c =
+pub returns-clause-count : goal.returns-clause-count
+returns-clause-count g c =
     nth.count_is g.D.VkDevice.state g.D.VkDevice.plan_of c.args.world.now c.args.history.now.items c.args.parts.now c.args.device.now c.requires.keeps (g.D.VkDevice.offered c.args.device.now) c.ready_threads.result c.holding_queues.result c.device_steps.result
-    c.ready_threads.ensures c.holding_queues.ensures c.device_steps.ensures
+    c.ready_threads.ensures c.holding_queues.ensures c.device_steps.ensures.count

@@ -15,11 +15,13 @@ returns-clause-report g c =
       source = (g.S.Source.faults c.args.source.now, g.S.Source.faults c.ran-ended.new.source);
     }) (g.K.Sink.faults c.args.sink.now, g.K.Sink.faults c.write_output-status.new.sink) (g.K.Sink.held c.args.sink.now) (g.K.Sink.held c.write_output-status.new.sink) (λ f. record {
       faults = (g.D.VkDevice.faults c.args.device, g.D.VkDevice.faults d);
+      rest = g.D.VkDevice.rest_of c.args.device;
       choices = c.report_of.result.choices.items;
       taken = c.report_of.result.taken.items;
       history = c.report_of.result.history.items;
       fences = f;
       device = g.D.VkDevice.state d;
+      offered = g.D.VkDevice.offered d;
     }) c.report_of.result.status) (sym c.report_of.ensures.device)
     (subst (λ cs. IsReport (record {
       words = map string_bytes c.args.words.now;
@@ -27,11 +29,13 @@ returns-clause-report g c =
       source = (g.S.Source.faults c.args.source.now, g.S.Source.faults c.ran-ended.new.source);
     }) (g.K.Sink.faults c.args.sink.now, g.K.Sink.faults c.write_output-status.new.sink) (g.K.Sink.held c.args.sink.now) (g.K.Sink.held c.write_output-status.new.sink) (λ f. record {
       faults = (g.D.VkDevice.faults c.args.device, g.D.VkDevice.faults c.ran-ended.result.device);
+      rest = g.D.VkDevice.rest_of c.args.device;
       choices = cs;
       taken = c.report_of.result.taken.items;
       history = c.report_of.result.history.items;
       fences = f;
       device = g.D.VkDevice.state c.ran-ended.result.device;
+      offered = g.D.VkDevice.offered c.ran-ended.result.device;
     }) c.report_of.result.status) (sym c.report_of.ensures.choices)
     (subst (λ ks. IsReport (record {
       words = map string_bytes c.args.words.now;
@@ -39,11 +43,13 @@ returns-clause-report g c =
       source = (g.S.Source.faults c.args.source.now, g.S.Source.faults c.ran-ended.new.source);
     }) (g.K.Sink.faults c.args.sink.now, g.K.Sink.faults c.write_output-status.new.sink) (g.K.Sink.held c.args.sink.now) (g.K.Sink.held c.write_output-status.new.sink) (λ f. record {
       faults = (g.D.VkDevice.faults c.args.device, g.D.VkDevice.faults c.ran-ended.result.device);
+      rest = g.D.VkDevice.rest_of c.args.device;
       choices = c.ran-ended.result.log.choices.items;
       taken = ks;
       history = c.report_of.result.history.items;
       fences = f;
       device = g.D.VkDevice.state c.ran-ended.result.device;
+      offered = g.D.VkDevice.offered c.ran-ended.result.device;
     }) c.report_of.result.status) (sym c.report_of.ensures.taken)
     (subst (λ h. IsReport (record {
       words = map string_bytes c.args.words.now;
@@ -51,11 +57,13 @@ returns-clause-report g c =
       source = (g.S.Source.faults c.args.source.now, g.S.Source.faults c.ran-ended.new.source);
     }) (g.K.Sink.faults c.args.sink.now, g.K.Sink.faults c.write_output-status.new.sink) (g.K.Sink.held c.args.sink.now) (g.K.Sink.held c.write_output-status.new.sink) (λ f. record {
       faults = (g.D.VkDevice.faults c.args.device, g.D.VkDevice.faults c.ran-ended.result.device);
+      rest = g.D.VkDevice.rest_of c.args.device;
       choices = c.ran-ended.result.log.choices.items;
       taken = c.ran-ended.result.log.taken.items;
       history = h;
       fences = f;
       device = g.D.VkDevice.state c.ran-ended.result.device;
+      offered = g.D.VkDevice.offered c.ran-ended.result.device;
     }) c.report_of.result.status) (sym c.report_of.ensures.history)
     (subst (λ s. IsReport (record {
       words = map string_bytes c.args.words.now;
@@ -63,18 +71,20 @@ returns-clause-report g c =
       source = (g.S.Source.faults c.args.source.now, g.S.Source.faults c.ran-ended.new.source);
     }) (g.K.Sink.faults c.args.sink.now, g.K.Sink.faults c.write_output-status.new.sink) (g.K.Sink.held c.args.sink.now) (g.K.Sink.held c.write_output-status.new.sink) (λ f. record {
       faults = (g.D.VkDevice.faults c.args.device, g.D.VkDevice.faults c.ran-ended.result.device);
+      rest = g.D.VkDevice.rest_of c.args.device;
       choices = c.ran-ended.result.log.choices.items;
       taken = c.ran-ended.result.log.taken.items;
       history = c.ran-ended.result.outcome.history;
       fences = f;
       device = g.D.VkDevice.state c.ran-ended.result.device;
+      offered = g.D.VkDevice.offered c.ran-ended.result.device;
     }) s) (sym c.report_of.ensures.status)
     (reported (record {
       words = map string_bytes c.args.words.now;
       told = g.S.Source.left c.args.source.now;
       source = (g.S.Source.faults c.args.source.now, g.S.Source.faults c.ran-ended.new.source);
     }) (g.K.Sink.faults c.args.sink.now, g.K.Sink.faults c.write_output-status.new.sink) (g.K.Sink.held c.args.sink.now) (g.K.Sink.held c.write_output-status.new.sink) (option_map seen c.ran-ended.result.trace)
-    (left_by c.ran-ended.result.log (g.D.VkDevice.faults c.args.device, g.D.VkDevice.faults c.ran-ended.result.device) (g.D.VkDevice.state c.ran-ended.result.device) c.ran-ended.result.outcome) c.ran-ended.result.outcome c.write_output-status.result
+    (left_by c.ran-ended.result.log (g.D.VkDevice.faults c.args.device, g.D.VkDevice.faults c.ran-ended.result.device) (g.D.VkDevice.rest_of c.args.device, g.D.VkDevice.offered c.ran-ended.result.device) (g.D.VkDevice.state c.ran-ended.result.device) c.ran-ended.result.outcome) c.ran-ended.result.outcome c.write_output-status.result
     c.ran-ended.ensures.says refl refl c.ran-ended.ensures.shown c.ran-ended.ensures.refused
     (subst (λ t. IsWritten (g.K.Sink.faults c.args.sink.now, g.K.Sink.faults c.write_output-status.new.sink) (g.K.Sink.held c.args.sink.now) (g.K.Sink.held c.write_output-status.new.sink) (option_map seen t) c.ran-ended.result.outcome c.write_output-status.result) c.as_ref.ensures.value c.write_output-status.ensures))))))
 

@@ -18,15 +18,17 @@ returns-clause-took g c = record {
   chooses = record {
     running = c.requires.running;
     free = g.D.VkDevice.offered c.args.sys.now.device;
+    none_free = c.enabled.ensures.none_at_rest;
     step = c.kth-step.result;
     some = c.requires.some;
     chosen =
         subst (λ n. slice_get (enabled_of c.args.sys.now.world c.args.sys.now.history (g.D.VkDevice.state c.args.sys.now.device) (g.D.VkDevice.offered c.args.sys.now.device))
-        (c.in_ok-choice.choice % n) ≡ Some c.kth-step.result) c.enabled.ensures c.kth-step.ensures;
+        (c.in_ok-choice.choice % n) ≡ Some c.kth-step.result) c.enabled.ensures.count c.kth-step.ensures;
     goes = c.in_ok-take_step.ensures.taken.goes;
   };
   named = refl;
   choices = c.push_reserved.ensures ∙ ap (λ xs. xs ++ c.in_ok-choice.choice ∷ []) c.in_ok-reserve.ensures.same_choices;
   taken = c.push_reserved-2.ensures ∙ ap (λ xs. xs ++ c.kth-step.result ∷ []) c.in_ok-reserve.ensures.same_taken;
+  rest = c.in_ok-take_step.ensures.taken.rest;
   falls = c.in_ok-take_step.ensures.taken.falls;
 }
