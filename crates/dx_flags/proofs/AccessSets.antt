@@ -7,9 +7,8 @@ use Rattle.dx_flags.proofs.BitTests.{union_has}
 use Rattle.dx_flags.proofs.Named.{middle, last, some_item}
 use Rattle.dx_flags.specs.declared.accesses.Access.{Access}
 use Rattle.dx_flags.specs.Bits.{bit_where}
-use Rattle.dx_flags.specs.Laws.{one_access}
 use Rattle.dx_flags.specs.AccessNames.{AccessName, access_bit, access_names, UNORDERED_ACCESS, SHADER_RESOURCE, CONSTANT_BUFFER, COPY_SOURCE, COPY_DEST, COMMON, NO_ACCESS}
-use Rattle.dx_flags.specs.Accesses.{access_has, is_well_formed_access, may_join_accesses}
+use Rattle.dx_flags.specs.Accesses.{one_access, access_has, is_well_formed_access, may_join_accesses}
 
 -- a test that passes for all names passes for each
 pub each_access : (test : AccessName → Bool) → list_all test access_names ≡ true → (name : AccessName) → test name ≡ true

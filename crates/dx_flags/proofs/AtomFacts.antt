@@ -11,23 +11,22 @@ use Rattle.dx_flags.specs.declared.layouts.Layout.TheVariants as layout
 use Rattle.dx_flags.specs.declared.syncs.Sync.{Sync}
 use Rattle.dx_flags.specs.declared.accesses.Access.{Access}
 use Rattle.dx_flags.specs.AccessNames.{COMMON, NO_ACCESS}
-use Rattle.dx_flags.specs.Accesses.{access_has}
-use Rattle.dx_flags.specs.Kinds.{has_kind, kind_bit, kind_of, kinds_of}
-use Rattle.dx_flags.specs.Laws.{one_access}
+use Rattle.dx_flags.specs.Accesses.{one_access, access_has}
+use Rattle.dx_flags.specs.Kinds.{name_of_kind, has_kind, kind_of, kinds_of}
 use Rattle.dx_flags.specs.Layouts.{allows}
 use Rattle.dx_flags.specs.Bits.{bit_where}
-use Rattle.dx_flags.specs.Parts.{part_bit, part_of, has_part, parts_of}
-use Rattle.dx_flags.specs.Syncs.{sync_has}
+use Rattle.dx_flags.specs.Parts.{name_of_part, part_of, has_part, parts_of}
+use Rattle.dx_flags.specs.Syncs.{one_sync, sync_has}
 
 -- each part stands for itself
-pub part_itself : (part : Part) → part_of (record { 0 = part_bit part }) ≡ Some part
+pub part_itself : (part : Part) → part_of (one_sync (name_of_part part)) ≡ Some part
 unfolding part_of
 part_itself Copy = refl
 part_itself Compute = refl
 part_itself Clear = refl
 
 -- each kind stands for itself
-pub kind_itself : (kind : Kind) → kind_of (record { 0 = kind_bit kind }) ≡ Some kind
+pub kind_itself : (kind : Kind) → kind_of (one_access (name_of_kind kind)) ≡ Some kind
 unfolding kind_of
 kind_itself UnorderedAccess = refl
 kind_itself ShaderResource = refl

@@ -6,10 +6,10 @@ use Rattle.dx_flags.proofs.Below.{at_below, same, same_is}
 use Rattle.dx_flags.proofs.BitTests.{union_has}
 use Rattle.dx_flags.proofs.Named.{middle, last, some_item}
 use Rattle.dx_flags.specs.declared.states.State.{State}
+use Rattle.dx_flags.specs.declared.states.TheConstants.State.{GENERIC_READ}
 use Rattle.dx_flags.specs.Bits.{bit_where}
-use Rattle.dx_flags.specs.Laws.{one_state}
 use Rattle.dx_flags.specs.StateNames.{StateName, state_bit, state_names, COMMON, VERTEX_AND_CONSTANT_BUFFER, NON_PIXEL_SHADER_RESOURCE, PIXEL_SHADER_RESOURCE, COPY_SOURCE, COPY_DEST, UNORDERED_ACCESS}
-use Rattle.dx_flags.specs.States.{state_has, is_valid, is_read}
+use Rattle.dx_flags.specs.States.{one_state, state_has, is_valid, is_read}
 
 -- a test that passes for all names passes for each
 pub each_state : (test : StateName → Bool) → list_all test state_names ≡ true → (name : StateName) → test name ≡ true
@@ -91,3 +91,8 @@ state_alone set name h stands there =
     let all : list_all (stands_well set) state_names ≡ true = last (nat_lt set.0 128) (list_any (state_has set) state_names) (list_all (stands_well set) state_names) h in
     let whole : stands_well set name ≡ true = each_state (stands_well set) all name in
     ap (λ n. record { 0 = n }) (eqb-true set.0 (state_bit name) (grind (arith, whole, stands, there)))
+
+-- the names of GENERIC_READ are the read states
+pub generic_reads : (name : StateName) → state_has GENERIC_READ name ≡ is_read name
+unfolding state_has
+generic_reads name = same_is _ _ (each_state (λ n. same (state_has GENERIC_READ n) (is_read n)) refl name)

@@ -7,9 +7,8 @@ use Rattle.dx_flags.proofs.BitTests.{union_has}
 use Rattle.dx_flags.proofs.Named.{middle, last, some_item}
 use Rattle.dx_flags.specs.declared.syncs.Sync.{Sync}
 use Rattle.dx_flags.specs.Bits.{bit_where}
-use Rattle.dx_flags.specs.Laws.{one_sync}
 use Rattle.dx_flags.specs.SyncNames.{SyncName, sync_bit, sync_names, NONE, ALL, COMPUTE_SHADING, ALL_SHADING, NON_PIXEL_SHADING, COPY, CLEAR_UNORDERED_ACCESS_VIEW}
-use Rattle.dx_flags.specs.Syncs.{sync_has, is_well_formed_sync, may_join_syncs}
+use Rattle.dx_flags.specs.Syncs.{one_sync, sync_has, is_well_formed_sync, may_join_syncs}
 
 -- a test that passes for all names passes for each
 pub each_sync : (test : SyncName → Bool) → list_all test sync_names ≡ true → (name : SyncName) → test name ≡ true

@@ -4,6 +4,10 @@ use Rattle.std.specs.List.{list_any, list_all}
 use Rattle.dx_flags.specs.declared.accesses.Access.{Access}
 use Rattle.dx_flags.specs.AccessNames.{AccessName, access_bit, access_names, UNORDERED_ACCESS, SHADER_RESOURCE, CONSTANT_BUFFER, COPY_SOURCE, COPY_DEST, COMMON, NO_ACCESS}
 
+-- the set of one access
+abbrev pub one_access : AccessName → Access
+one_access name = record { 0 = access_bit name }
+
 -- a set has a name
 unfoldable pub access_has : Access → AccessName → Bool
 access_has access name = bit_and access.0 (access_bit name) == access_bit name

@@ -4,30 +4,19 @@ use Rattle.dx_flags.specs.declared.atoms.Kind.{Kind}
 use Rattle.dx_flags.specs.declared.atoms.Part.{Part}
 use Rattle.dx_flags.specs.declared.layouts.Layout.{Layout}
 use Rattle.dx_flags.specs.declared.states.State.{State}
+use Rattle.dx_flags.specs.declared.states.TheConstants.State.{GENERIC_READ}
 use Rattle.dx_flags.specs.declared.syncs.Sync.{Sync}
 use Rattle.dx_flags.specs.declared.accesses.Access.{Access}
 use Rattle.dx_flags.specs.AccessNames.{AccessName, access_bit, COMMON, NO_ACCESS}
-use Rattle.dx_flags.specs.Accesses.{access_has, may_join_accesses, is_well_formed_access}
+use Rattle.dx_flags.specs.Accesses.{one_access, access_has, may_join_accesses, is_well_formed_access}
 use Rattle.dx_flags.specs.Fits.{accesses_of_name, is_access_of, fits_of}
-use Rattle.dx_flags.specs.Kinds.{kinds_of_name, kind_bit, is_kind_of, has_kind, kinds_of, kind_of}
+use Rattle.dx_flags.specs.Kinds.{name_of_kind, kinds_of_name, is_kind_of, has_kind, kinds_of, kind_of}
 use Rattle.dx_flags.specs.Layouts.{layout_allows, allows}
-use Rattle.dx_flags.specs.Parts.{parts_of_name, part_bit, is_part_of, has_part, parts_of, part_of}
+use Rattle.dx_flags.specs.Parts.{name_of_part, parts_of_name, is_part_of, has_part, parts_of, part_of}
 use Rattle.dx_flags.specs.StateNames.{StateName, state_bit}
-use Rattle.dx_flags.specs.States.{state_has, is_read, is_valid}
+use Rattle.dx_flags.specs.States.{one_state, state_has, is_read, is_valid}
 use Rattle.dx_flags.specs.SyncNames.{SyncName, sync_bit}
-use Rattle.dx_flags.specs.Syncs.{sync_has, may_join_syncs, is_well_formed_sync}
-
--- the set of one sync
-abbrev pub one_sync : SyncName → Sync
-one_sync name = record { 0 = sync_bit name }
-
--- the set of one access
-abbrev pub one_access : AccessName → Access
-one_access name = record { 0 = access_bit name }
-
--- the set of one state
-abbrev pub one_state : StateName → State
-one_state name = record { 0 = state_bit name }
+use Rattle.dx_flags.specs.Syncs.{one_sync, sync_has, may_join_syncs, is_well_formed_sync}
 
 -- two sets without unknown bits that have the same names are one
 pub record SetsAreTheirNames : Type 0 where
@@ -59,6 +48,11 @@ pub record WellFormedSets : Type 0 where
   pub state_alone : (state : State) (name : StateName) → is_valid state ≡ true → is_read name ≡ false → state_has state name ≡ true → state ≡ one_state name
   pub state_single : (name : StateName) → is_valid (one_state name) ≡ true
 
+-- the names of GENERIC_READ are the read states, and it has no unknown bit
+pub record GenericReadIsTheReads : Type 0 where
+  pub known : GENERIC_READ.0 < 2 ^ 7
+  pub names : (name : StateName) → state_has GENERIC_READ name ≡ is_read name
+
 -- a set has a part or a kind exactly where one of its names has it; its accesses fit exactly where each fits one of
 -- the syncs; and a layout allows it exactly where it allows each of its kinds
 pub record TablesGoByNames : Type 0 where
@@ -76,8 +70,8 @@ pub record TablesGoByNames : Type 0 where
 pub record AtomsStay : Type 0 where
   pub parts : (sync : Sync) → parts_of (parts_of sync) ≡ parts_of sync
   pub kinds : (access : Access) → kinds_of (kinds_of access) ≡ kinds_of access
-  pub part : (part : Part) → part_of (record { 0 = part_bit part }) ≡ Some part
-  pub kind : (kind : Kind) → kind_of (record { 0 = kind_bit kind }) ≡ Some kind
+  pub part : (part : Part) → part_of (one_sync (name_of_part part)) ≡ Some part
+  pub kind : (kind : Kind) → kind_of (one_access (name_of_kind kind)) ≡ Some kind
 
 -- no layout allows access COMMON, which has all kinds, and each allows NO_ACCESS, which has none
 pub record LayoutsAndCommon : Type 0 where

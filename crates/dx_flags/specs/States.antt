@@ -4,6 +4,10 @@ use Rattle.std.specs.List.{list_any, list_all}
 use Rattle.dx_flags.specs.declared.states.State.{State}
 use Rattle.dx_flags.specs.StateNames.{StateName, state_bit, state_names, COMMON, VERTEX_AND_CONSTANT_BUFFER, NON_PIXEL_SHADER_RESOURCE, PIXEL_SHADER_RESOURCE, COPY_SOURCE, COPY_DEST, UNORDERED_ACCESS}
 
+-- the set of one state
+abbrev pub one_state : StateName → State
+one_state name = record { 0 = state_bit name }
+
 -- a set has a name
 unfoldable pub state_has : State → StateName → Bool
 state_has state name = bit_and state.0 (state_bit name) == state_bit name

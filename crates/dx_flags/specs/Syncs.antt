@@ -4,6 +4,10 @@ use Rattle.std.specs.List.{list_any, list_all}
 use Rattle.dx_flags.specs.declared.syncs.Sync.{Sync}
 use Rattle.dx_flags.specs.SyncNames.{SyncName, sync_bit, sync_names, NONE, ALL, COMPUTE_SHADING, ALL_SHADING, NON_PIXEL_SHADING, COPY, CLEAR_UNORDERED_ACCESS_VIEW}
 
+-- the set of one sync
+abbrev pub one_sync : SyncName → Sync
+one_sync name = record { 0 = sync_bit name }
+
 -- a set has a name
 unfoldable pub sync_has : Sync → SyncName → Bool
 sync_has sync name = bit_and sync.0 (sync_bit name) == sync_bit name

@@ -1,6 +1,6 @@
 //! Laws of the sets and of their tables. The functions do nothing.
 
-ghost use Rattle.dx_flags.specs.Laws.{SetsAreTheirNames, SinglesHaveOne, UnionsHaveBoth, WellFormedSets, TablesGoByNames, AtomsStay, LayoutsAndCommon};
+ghost use Rattle.dx_flags.specs.Laws.{SetsAreTheirNames, SinglesHaveOne, UnionsHaveBoth, WellFormedSets, GenericReadIsTheReads, TablesGoByNames, AtomsStay, LayoutsAndCommon};
 
 /// Two sets without unknown bits that have the same names are one.
 pub fn sets_are_their_names()
@@ -23,6 +23,11 @@ pub fn well_formed_sets_have_names()
     ensures { WellFormedSets }
 {}
 
+/// The names of GENERIC_READ are the four read states, and no other bit is in it.
+pub fn generic_read_is_the_read_states()
+    ensures { GenericReadIsTheReads }
+{}
+
 /// A set has a part or a kind exactly where one of its names has it. Accesses fit syncs exactly where each
 /// fits one of them. A layout allows accesses exactly where it allows each of their kinds.
 pub fn tables_go_by_names()
@@ -36,6 +41,6 @@ pub fn atoms_stay()
 {}
 
 /// No layout allows access COMMON, and each allows NO_ACCESS.
-pub fn layouts_allow_no_access()
+pub fn layouts_and_common()
     ensures { LayoutsAndCommon }
 {}

@@ -15,8 +15,8 @@ pub use accesses::{Access, kinds};
 pub use atoms::{Kind, Part};
 pub use fitting::fits;
 pub use laws::{
-    atoms_stay, layouts_allow_no_access, sets_are_their_names, singles_have_one,
-    tables_go_by_names, unions_have_both, well_formed_sets_have_names,
+    atoms_stay, generic_read_is_the_read_states, layouts_and_common, sets_are_their_names,
+    singles_have_one, tables_go_by_names, unions_have_both, well_formed_sets_have_names,
 };
 pub use layouts::{Layout, allowed};
 pub use states::State;

@@ -6,11 +6,11 @@ use Rattle.dx_base.specs.declared.kinds.ListType.TheVariants.{Copy}
 use Rattle.dx_flags.specs.declared.atoms.Kind.{Kind}
 use Rattle.dx_flags.specs.declared.atoms.Part.{Part}
 use Rattle.dx_flags.specs.declared.layouts.Layout.TheVariants.{Undefined}
-use Rattle.dx_flags.specs.Accesses.{is_well_formed_access}
+use Rattle.dx_flags.specs.Accesses.{one_access, is_well_formed_access}
 use Rattle.dx_flags.specs.Fits.{fits_of}
-use Rattle.dx_flags.specs.Kinds.{kind_bit}
-use Rattle.dx_flags.specs.Parts.{part_bit}
-use Rattle.dx_flags.specs.Syncs.{is_well_formed_sync}
+use Rattle.dx_flags.specs.Kinds.{name_of_kind}
+use Rattle.dx_flags.specs.Parts.{name_of_part}
+use Rattle.dx_flags.specs.Syncs.{one_sync, is_well_formed_sync}
 use Rattle.enhanced_barriers.specs.declared.barriers.Barrier.{Barrier}
 use Rattle.enhanced_barriers.specs.declared.barriers.Scope.TheVariants.{Texture}
 use Rattle.enhanced_barriers.specs.Cover.{before_has, covers_of}
@@ -46,4 +46,4 @@ CopiesAreLegalEverywhere =
 abbrev pub CoversItsPairs : Type 0
 CoversItsPairs =
     (barrier : Barrier) (part : Part) (kind : Kind) →
-    covers_of barrier (record { 0 = part_bit part }) (record { 0 = kind_bit kind }) ≡ before_has barrier part kind
+    covers_of barrier (one_sync (name_of_part part)) (one_access (name_of_kind kind)) ≡ before_has barrier part kind

@@ -10,8 +10,8 @@ use Rattle.dx_flags.specs.declared.syncs.Sync.{Sync}
 use Rattle.dx_flags.specs.AccessNames.{AccessName, access_names}
 use Rattle.dx_flags.specs.Fits as fit
 use Rattle.dx_flags.specs.Fits.{fits_of, is_access_of}
-use Rattle.dx_flags.specs.Laws.{one_state}
 use Rattle.dx_flags.specs.StateNames.{UNORDERED_ACCESS}
+use Rattle.dx_flags.specs.States.{one_state}
 use Rattle.dx_flags.specs.SyncNames.{SyncName}
 use Rattle.dx_flags.specs.Syncs.{sync_has}
 use Rattle.enhanced_barriers.proofs.LegalParts.{legal_means}

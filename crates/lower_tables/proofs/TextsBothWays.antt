@@ -11,11 +11,13 @@ use Rattle.dx_flags.specs.declared.states.State.{State}
 use Rattle.dx_flags.specs.declared.syncs.Sync.{Sync}
 use Rattle.dx_flags.specs.AccessNames as access
 use Rattle.dx_flags.specs.AccessNames.{AccessName, access_bit, access_text, access_names}
-use Rattle.dx_flags.specs.Laws.{one_sync, one_access, one_state}
+use Rattle.dx_flags.specs.Accesses.{one_access}
 use Rattle.dx_flags.specs.StateNames as state
 use Rattle.dx_flags.specs.StateNames.{StateName, state_bit, state_text, state_names}
+use Rattle.dx_flags.specs.States.{one_state}
 use Rattle.dx_flags.specs.SyncNames as sync
 use Rattle.dx_flags.specs.SyncNames.{SyncName, sync_bit, sync_text, sync_names}
+use Rattle.dx_flags.specs.Syncs.{one_sync}
 use Rattle.lower_tables.specs.Laws.{NamesAreOfSingles, NamesGoBothWays}
 use Rattle.lower_tables.specs.Names.{sync_named, sync_name, access_named, access_name, state_named, state_name, layout_named, layout_name, layout_text, all_layouts}
 use Rattle.lower_tables.specs.Rows.{first_where}

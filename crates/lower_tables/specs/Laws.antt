@@ -9,12 +9,13 @@ use Rattle.dx_flags.specs.declared.states.State.{State}
 use Rattle.dx_flags.specs.declared.syncs.Sync.{Sync}
 use Rattle.dx_flags.specs.Kinds.{has_kind}
 use Rattle.dx_flags.specs.AccessNames.{AccessName, access_text}
-use Rattle.dx_flags.specs.Laws.{one_sync, one_access, one_state}
+use Rattle.dx_flags.specs.Accesses.{one_access}
 use Rattle.dx_flags.specs.Layouts.{layout_allows}
 use Rattle.dx_flags.specs.Parts.{has_part}
 use Rattle.dx_flags.specs.StateNames.{StateName, state_text, UNORDERED_ACCESS}
+use Rattle.dx_flags.specs.States.{one_state}
 use Rattle.dx_flags.specs.SyncNames.{SyncName, sync_text}
-use Rattle.dx_flags.specs.Syncs.{is_well_formed_sync}
+use Rattle.dx_flags.specs.Syncs.{one_sync, is_well_formed_sync}
 use Rattle.enhanced_barriers.specs.declared.barriers.Barrier.{Barrier}
 use Rattle.enhanced_barriers.specs.Legal.{is_legal}
 use Rattle.vk_types.specs.declared.accesses.Access.{Access as VkAccess}

@@ -6,9 +6,11 @@ use Rattle.dx_flags.specs.declared.layouts.Layout.TheVariants.{Undefined, Common
 use Rattle.dx_flags.specs.declared.states.State.{State}
 use Rattle.dx_flags.specs.declared.syncs.Sync.{Sync}
 use Rattle.dx_flags.specs.AccessNames.{access_bit, access_text, access_names}
-use Rattle.dx_flags.specs.Laws.{one_sync, one_access, one_state}
+use Rattle.dx_flags.specs.Accesses.{one_access}
 use Rattle.dx_flags.specs.StateNames.{state_bit, state_text, state_names}
+use Rattle.dx_flags.specs.States.{one_state}
 use Rattle.dx_flags.specs.SyncNames.{sync_bit, sync_text, sync_names}
+use Rattle.dx_flags.specs.Syncs.{one_sync}
 use Rattle.lower_tables.specs.Rows.{first_value, value_named}
 
 -- the sync that has a text
