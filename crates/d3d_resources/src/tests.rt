@@ -141,6 +141,11 @@ fn a_texture_is_refused_just_past_each_limit(rt: HostRuntime) {
 fn a_texture_starts_in_a_valid_state_or_in_a_layout_that_is_not_undefined(rt: HostRuntime) {
     let rows = [
         (Start::Legacy(State::COMMON), true),
+        (Start::Legacy(State::VERTEX_AND_CONSTANT_BUFFER), true),
+        (Start::Legacy(State::NON_PIXEL_SHADER_RESOURCE), true),
+        (Start::Legacy(State::PIXEL_SHADER_RESOURCE), true),
+        (Start::Legacy(State::COPY_SOURCE), true),
+        (Start::Legacy(State::COPY_DEST), true),
         (Start::Legacy(State::UNORDERED_ACCESS), true),
         (
             Start::Legacy(State::COPY_SOURCE | State::PIXEL_SHADER_RESOURCE),
@@ -176,33 +181,36 @@ fn four_mips_of_four_texels_and_an_undefined_start_are_refused_and_three_mips_ar
     assert!(rt; texture(COMMON, 4, 4, 3, 1, false).is_ok());
 }
 
+/// Class, offset and bytes of a view of an upload buffer of 131,072 bytes, and the first word and the words
+/// that it has, or None where it is refused.
+const RANGES: [(Class, u64, u64, Option<(u32, u32)>); 18] = [
+    // Words.
+    (Class::Srv, 0, 4, Some((0, 1))),
+    (Class::Srv, 4, 131_068, Some((1, 32_767))),
+    (Class::Srv, 4, 131_072, None),
+    (Class::Srv, 8, 131_068, None),
+    (Class::Srv, 2, 4, None),
+    (Class::Srv, 4, 6, None),
+    (Class::Srv, 0, 0, None),
+    (Class::Srv, 131_072, 0, None),
+    (Class::Srv, 18_446_744_073_709_551_612, 8, None),
+    // Units of 256 bytes, and at most 65,536.
+    (Class::Cbv, 0, 256, Some((0, 64))),
+    (Class::Cbv, 256, 65_536, Some((64, 16_384))),
+    (Class::Cbv, 0, 65_792, None),
+    (Class::Cbv, 4, 256, None),
+    (Class::Cbv, 0, 260, None),
+    (Class::Cbv, 0, 0, None),
+    (Class::Cbv, 130_816, 256, Some((32_704, 64))),
+    (Class::Cbv, 130_816, 512, None),
+    // No unordered access of what the host writes.
+    (Class::Uav, 0, 4, None),
+];
+
 #[test]
 fn a_view_of_a_buffer_has_whole_units_inside_it(rt: HostRuntime) -> Result<(), Fail> {
     let upload = buffer(Home::Upload, 131_072)?;
-    let rows = [
-        // Words.
-        (Class::Srv, 0, 4, Some((0, 1))),
-        (Class::Srv, 4, 131_068, Some((1, 32_767))),
-        (Class::Srv, 4, 131_072, None),
-        (Class::Srv, 8, 131_068, None),
-        (Class::Srv, 2, 4, None),
-        (Class::Srv, 4, 6, None),
-        (Class::Srv, 0, 0, None),
-        (Class::Srv, 131_072, 0, None),
-        (Class::Srv, 18_446_744_073_709_551_612, 8, None),
-        // Units of 256 bytes, and at most 65,536.
-        (Class::Cbv, 0, 256, Some((0, 64))),
-        (Class::Cbv, 256, 65_536, Some((64, 16_384))),
-        (Class::Cbv, 0, 65_792, None),
-        (Class::Cbv, 4, 256, None),
-        (Class::Cbv, 0, 260, None),
-        (Class::Cbv, 0, 0, None),
-        (Class::Cbv, 130_816, 256, Some((32_704, 64))),
-        (Class::Cbv, 130_816, 512, None),
-        // No unordered access of what the host writes.
-        (Class::Uav, 0, 4, None),
-    ];
-    for (class, offset, bytes, want) in rows {
+    for (class, offset, bytes, want) in RANGES {
         let answer = buffer_view(class, NAME, &upload, offset, bytes);
         let want = match want {
             Some((first, words)) => Ok(View {
@@ -301,6 +309,22 @@ fn the_rows_of_a_texture_fit_a_buffer_to_the_last_word(rt: HostRuntime) -> Resul
         };
         assert!(rt; answer == want, "{sub} {bytes} {offset} {pitch}");
     }
+    Ok(())
+}
+
+#[test]
+fn a_pitch_of_256_holds_64_texels_and_no_more(rt: HostRuntime) -> Result<(), Fail> {
+    let of = buffer(Home::Upload, 1024)?;
+    let full = texture(COMMON, 64, 2, 1, 1, false)?;
+    let wider = texture(COMMON, 65, 2, 1, 1, false)?;
+    let placed = Footprint {
+        first: 0,
+        pitch: 64,
+        width: 64,
+        height: 2,
+    };
+    assert!(rt; footprint(&full, 0, &of, 0, 256) == Ok(placed));
+    assert!(rt; footprint(&wider, 0, &of, 0, 256) == Err(Hresult::InvalidArg));
     Ok(())
 }
 

@@ -148,46 +148,81 @@ fn each_access_of_a_set_fits_some_sync_of_a_set(rt: HostRuntime) -> Result<(), F
     Ok(())
 }
 
+/// Which kinds a layout allows.
+fn kinds_allowed(layout: Layout, shared: bool) -> [bool; 5] {
+    [
+        layout.allows(Kind::UnorderedAccess, shared),
+        layout.allows(Kind::ShaderResource, shared),
+        layout.allows(Kind::ConstantBuffer, shared),
+        layout.allows(Kind::CopySource, shared),
+        layout.allows(Kind::CopyDest, shared),
+    ]
+}
+
+/// Each layout, for a plain texture (false) and a shared one, with the kinds that it allows: unordered
+/// access, shader resource, constant buffer, copy source and copy destination.
+const LAYOUTS: [(Layout, bool, [bool; 5]); 14] = [
+    (
+        Layout::Undefined,
+        false,
+        [false, false, false, false, false],
+    ),
+    (Layout::Undefined, true, [false, false, false, false, false]),
+    (Layout::Common, false, [false, true, false, true, true]),
+    (Layout::Common, true, [true, true, false, true, true]),
+    (
+        Layout::GenericRead,
+        false,
+        [false, true, false, true, false],
+    ),
+    (Layout::GenericRead, true, [false, true, false, true, false]),
+    (
+        Layout::UnorderedAccess,
+        false,
+        [true, false, false, false, false],
+    ),
+    (
+        Layout::UnorderedAccess,
+        true,
+        [true, false, false, false, false],
+    ),
+    (
+        Layout::ShaderResource,
+        false,
+        [false, true, false, false, false],
+    ),
+    (
+        Layout::ShaderResource,
+        true,
+        [false, true, false, false, false],
+    ),
+    (
+        Layout::CopySource,
+        false,
+        [false, false, false, true, false],
+    ),
+    (Layout::CopySource, true, [false, false, false, true, false]),
+    (Layout::CopyDest, false, [false, false, false, false, true]),
+    (Layout::CopyDest, true, [false, false, false, false, true]),
+];
+
+#[test]
+fn each_layout_allows_its_kinds(rt: HostRuntime) -> Result<(), Fail> {
+    for (layout, shared, row) in LAYOUTS {
+        assert_eq!(rt; kinds_allowed(layout, shared), row);
+    }
+    Ok(())
+}
+
 #[test]
 fn each_layout_allows_its_accesses(rt: HostRuntime) -> Result<(), Fail> {
-    let rows = [
-        (
-            Layout::Undefined,
-            [false, false, false, false, false, false, true],
-        ),
-        (
-            Layout::GenericRead,
-            [false, true, false, true, false, false, true],
-        ),
-        (
-            Layout::UnorderedAccess,
-            [true, false, false, false, false, false, true],
-        ),
-        (
-            Layout::ShaderResource,
-            [false, true, false, false, false, false, true],
-        ),
-        (
-            Layout::CopySource,
-            [false, false, false, true, false, false, true],
-        ),
-        (
-            Layout::CopyDest,
-            [false, false, false, false, true, false, true],
-        ),
-    ];
-    for (layout, row) in rows {
-        assert_eq!(rt; allows(layout, false), row);
-        assert_eq!(rt; allows(layout, true), row);
+    for (layout, shared, row) in LAYOUTS {
+        let [unordered, shader, constant, source, dest] = row;
+        assert_eq!(rt;
+            allows(layout, shared),
+            [unordered, shader, constant, source, dest, false, true]
+        );
     }
-    assert_eq!(rt;
-        allows(Layout::Common, false),
-        [false, true, false, true, true, false, true]
-    );
-    assert_eq!(rt;
-        allows(Layout::Common, true),
-        [true, true, false, true, true, false, true]
-    );
     Ok(())
 }
 

@@ -198,3 +198,62 @@ fn a_barrier_covers_the_pairs_of_its_before_side(rt: HostRuntime) -> Result<(), 
     assert!(rt; !covers(&none, Sync::COPY, Access::COPY_SOURCE));
     Ok(())
 }
+
+#[test]
+fn each_sync_before_covers_its_parts(rt: HostRuntime) -> Result<(), Fail> {
+    let rows = [
+        (Sync::NONE, [false, false, false]),
+        (Sync::ALL, [true, true, true]),
+        (Sync::COMPUTE_SHADING, [false, true, true]),
+        (Sync::ALL_SHADING, [false, true, true]),
+        (Sync::NON_PIXEL_SHADING, [false, true, true]),
+        (Sync::COPY, [true, false, false]),
+        (Sync::CLEAR_UNORDERED_ACCESS_VIEW, [false, false, true]),
+    ];
+    for (sync, covered) in rows {
+        let barrier = global(sync, Sync::NONE, Access::COMMON, Access::NO_ACCESS);
+        assert_eq!(rt;
+            [
+                covers(&barrier, Sync::COPY, Access::COPY_DEST),
+                covers(&barrier, Sync::COMPUTE_SHADING, Access::COPY_DEST),
+                covers(
+                    &barrier,
+                    Sync::CLEAR_UNORDERED_ACCESS_VIEW,
+                    Access::COPY_DEST
+                )
+            ],
+            covered
+        );
+    }
+    Ok(())
+}
+
+/// Whether a barrier covers copies with each kind: unordered access, shader resource, constant buffer, copy
+/// source and copy destination.
+fn kinds_covered(barrier: &Barrier) -> [bool; 5] {
+    [
+        covers(barrier, Sync::COPY, Access::UNORDERED_ACCESS),
+        covers(barrier, Sync::COPY, Access::SHADER_RESOURCE),
+        covers(barrier, Sync::COPY, Access::CONSTANT_BUFFER),
+        covers(barrier, Sync::COPY, Access::COPY_SOURCE),
+        covers(barrier, Sync::COPY, Access::COPY_DEST),
+    ]
+}
+
+#[test]
+fn each_access_before_covers_its_kinds(rt: HostRuntime) -> Result<(), Fail> {
+    let rows = [
+        (Access::UNORDERED_ACCESS, [true, false, false, false, false]),
+        (Access::SHADER_RESOURCE, [false, true, false, false, false]),
+        (Access::CONSTANT_BUFFER, [false, false, true, false, false]),
+        (Access::COPY_SOURCE, [false, false, false, true, false]),
+        (Access::COPY_DEST, [false, false, false, false, true]),
+        (Access::COMMON, [true, true, true, true, true]),
+        (Access::NO_ACCESS, [false, false, false, false, false]),
+    ];
+    for (access, covered) in rows {
+        let barrier = global(Sync::ALL, Sync::NONE, access, Access::NO_ACCESS);
+        assert_eq!(rt; kinds_covered(&barrier), covered);
+    }
+    Ok(())
+}
