@@ -1,5 +1,5 @@
 -- The memory accesses of sets of accesses.
-use Rattle.std.proofs.Common.{◌≡◌, Bool, true, ◌&&◌, refl, arith}
+use Rattle.std.proofs.Common.{◌≡◌, Bool, true, ◌&&◌, refl}
 use Rattle.std.specs.List.{list_any}
 use Rattle.dx_flags.proofs.Named.{both, some_item}
 use Rattle.dx_flags.specs.declared.accesses.Access.{Access}
@@ -8,29 +8,18 @@ use Rattle.dx_flags.specs.declared.atoms.Kind.TheVariants as kind
 use Rattle.dx_flags.specs.AccessNames.{AccessName, access_names, UNORDERED_ACCESS, SHADER_RESOURCE, CONSTANT_BUFFER, COPY_SOURCE, COPY_DEST, COMMON, NO_ACCESS}
 use Rattle.dx_flags.specs.Accesses.{access_has}
 use Rattle.dx_flags.specs.Kinds.{has_kind, is_kind_of, kinds_of_name}
+use Rattle.vk_types.proofs.Supported.{among_all}
 use Rattle.vk_types.specs.declared.accesses.Access.{Access as VkAccess}
 use Rattle.vk_types.specs.declared.accesses.Access.TheVariants.{MemoryRead, MemoryWrite, ShaderStorageRead, ShaderStorageWrite, ShaderRead, UniformRead, TransferRead, TransferWrite, HostRead}
 use Rattle.vk_types.specs.declared.accesses.Accesses.{Accesses}
 use Rattle.vk_types.specs.Accesses.{has_access}
 use Rattle.vk_types.specs.Support.{all_accesses}
+use Rattle.vk_types.specs.Whole.{stands_for_access}
 use Rattle.std.specs.List.{list_all}
 use Rattle.lower_tables.proofs.Marks.{Test, implies, where_first, all_marks, at_marks}
 use Rattle.lower_tables.specs.Accesses.{access_of, accesses_of_name, access_bits_of_name}
 use Rattle.lower_tables.specs.Made.{is_made_by, is_one_of}
 use Rattle.lower_tables.specs.Unions.{united}
-use Rattle.lower_tables.specs.Whole.{stands_for_access}
-
--- a test that passes for all memory accesses passes for each
-pub each_made : (test : VkAccess → Bool) → list_all test all_accesses ≡ true → (x : VkAccess) → test x ≡ true
-each_made test h MemoryRead = grind (arith, h)
-each_made test h MemoryWrite = grind (arith, h)
-each_made test h ShaderStorageRead = grind (arith, h)
-each_made test h ShaderStorageWrite = grind (arith, h)
-each_made test h ShaderRead = grind (arith, h)
-each_made test h UniformRead = grind (arith, h)
-each_made test h TransferRead = grind (arith, h)
-each_made test h TransferWrite = grind (arith, h)
-each_made test h HostRead = grind (arith, h)
 
 -- a set of accesses by its marks
 abbrev marked : Bool → Bool → Bool → Bool → Bool → Bool → Bool → AccessName → Bool
@@ -76,7 +65,7 @@ takes_each kind s h = where_first (has_kind kind s) _ (at_set (takes_kind kind) 
 pub takes_in_kind : (kind : Kind) (s : Access) (x : VkAccess) → has_kind kind s ≡ true → is_made_by kind x ≡ true → stands_for_access (access_of s) x ≡ true
 takes_in_kind kind s x h made =
     where_first (is_made_by kind x) (stands_for_access (access_of s) x)
-    (each_made (λ y. implies (is_made_by kind y) (stands_for_access (access_of s) y)) (takes_each kind s h) x) made
+    (among_all (λ y. implies (is_made_by kind y) (stands_for_access (access_of s) y)) x (takes_each kind s h)) made
 
 -- where the memory accesses of a set have one, some access of the set has it
 abbrev comes_from : VkAccess → (AccessName → Bool) → Bool

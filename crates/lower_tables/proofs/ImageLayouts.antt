@@ -7,13 +7,13 @@ use Rattle.dx_flags.specs.declared.layouts.Layout.{Layout}
 use Rattle.dx_flags.specs.declared.layouts.Layout.TheVariants as layout
 use Rattle.dx_flags.specs.Kinds.{all_kinds}
 use Rattle.dx_flags.specs.Layouts.{layout_allows}
+use Rattle.vk_types.proofs.Supported.{among_all}
 use Rattle.vk_types.specs.declared.accesses.Access.{Access}
 use Rattle.vk_types.specs.Support.{all_accesses}
-use Rattle.lower_tables.proofs.AccessBits.{each_made}
+use Rattle.vk_types.specs.Whole.{image_allows}
 use Rattle.lower_tables.proofs.Marks.{implies, where_first}
 use Rattle.lower_tables.specs.Layouts.{layout_of}
 use Rattle.lower_tables.specs.Made.{is_made_by}
-use Rattle.lower_tables.specs.Whole.{image_allows}
 
 -- where a layout allows a kind, the image's allows what the kind makes
 abbrev takes : Layout → Bool → Kind → Access → Bool
@@ -34,5 +34,5 @@ each_takes layout.CopyDest shared = refl
 
 pub allows_made : (l : Layout) (kind : Kind) (shared : Bool) (x : Access) → layout_allows l kind shared ≡ true → is_made_by kind x ≡ true → image_allows (layout_of l) x ≡ true
 allows_made l kind shared x h made =
-    let taken : takes l shared kind x ≡ true = each_made (takes l shared kind) (each_kind (λ k. list_all (takes l shared k) all_accesses) (each_takes l shared) kind) x in
+    let taken : takes l shared kind x ≡ true = among_all (takes l shared kind) x (each_kind (λ k. list_all (takes l shared k) all_accesses) (each_takes l shared) kind) in
     where_first (is_made_by kind x) (image_allows (layout_of l) x) (where_first (layout_allows l kind shared) (implies (is_made_by kind x) (image_allows (layout_of l) x)) taken h) made

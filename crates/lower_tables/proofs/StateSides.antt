@@ -10,18 +10,18 @@ use Rattle.dx_flags.specs.declared.states.State.{State}
 use Rattle.dx_flags.specs.Kinds.{all_kinds}
 use Rattle.dx_flags.specs.StateNames.{StateName, state_names, COMMON, VERTEX_AND_CONSTANT_BUFFER, NON_PIXEL_SHADER_RESOURCE, PIXEL_SHADER_RESOURCE, COPY_SOURCE, COPY_DEST, UNORDERED_ACCESS}
 use Rattle.dx_flags.specs.States.{state_has}
+use Rattle.vk_types.proofs.Supported.{among_all}
 use Rattle.vk_types.specs.declared.accesses.Access.{Access}
 use Rattle.vk_types.specs.declared.accesses.Accesses.{Accesses}
 use Rattle.vk_types.specs.declared.stages.Stages.{Stages}
 use Rattle.vk_types.specs.Support.{all_accesses, supports}
-use Rattle.lower_tables.proofs.AccessBits.{each_made}
+use Rattle.vk_types.specs.Whole.{stands_for_stage, stands_for_access}
 use Rattle.lower_tables.proofs.Marks.{Test, implies, where_first, all_marks, at_marks}
 use Rattle.lower_tables.specs.Laws.{StatesTakeInPairs, is_supported_side}
 use Rattle.lower_tables.specs.Made.{stage_of_part, is_made_by}
 use Rattle.lower_tables.specs.Pairs.{name_has_pair, state_has_pair}
 use Rattle.lower_tables.specs.States.{state_of, state_stages, state_accesses, stage_bit_of_state, access_bits_of_state}
 use Rattle.lower_tables.specs.Unions.{united}
-use Rattle.lower_tables.specs.Whole.{stands_for_stage, stands_for_access}
 
 -- a union of states by its marks
 abbrev marked : Bool → Bool → Bool → Bool → Bool → Bool → Bool → StateName → Bool
@@ -105,7 +105,7 @@ kinds_taken s part kind h = where_first (state_has_pair s part kind) _ (at_set (
 takes_in_kind : (s : State) (part : Part) (kind : Kind) (x : Access) → state_has_pair s part kind ≡ true → is_made_by kind x ≡ true → stands_for_access (state_of s).1 x ≡ true
 takes_in_kind s part kind x h made =
     where_first (is_made_by kind x) (stands_for_access (state_accesses s) x)
-    (each_made (λ y. implies (is_made_by kind y) (stands_for_access (state_accesses s) y)) (kinds_taken s part kind h) x) made
+    (among_all (λ y. implies (is_made_by kind y) (stands_for_access (state_accesses s) y)) x (kinds_taken s part kind h)) made
 
 pub takes_in_pairs : StatesTakeInPairs
 takes_in_pairs = record { stages = takes_in_part; accesses = takes_in_kind }

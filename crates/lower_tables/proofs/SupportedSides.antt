@@ -18,12 +18,12 @@ use Rattle.enhanced_barriers.proofs.LegalParts.{legal_means}
 use Rattle.enhanced_barriers.specs.declared.barriers.Barrier.{Barrier}
 use Rattle.enhanced_barriers.specs.Laws.{IsLegal}
 use Rattle.enhanced_barriers.specs.Legal.{is_legal}
-use Rattle.vk_types.proofs.Supported.{support_means}
+use Rattle.vk_types.proofs.Supported.{among_all, support_means}
 use Rattle.vk_types.specs.declared.accesses.Access.{Access as VkAccess}
 use Rattle.vk_types.specs.Accesses.{has_access, group_of}
 use Rattle.vk_types.specs.Support.{all_accesses, supports, supports_group}
 use Rattle.vk_types.specs.Supported.{IsSupported}
-use Rattle.lower_tables.proofs.AccessBits.{each_made, Origin, origin}
+use Rattle.lower_tables.proofs.AccessBits.{Origin, origin}
 use Rattle.lower_tables.proofs.Marks.{implies, where_first}
 use Rattle.lower_tables.proofs.StateSides.{side_supported}
 use Rattle.lower_tables.proofs.SyncStages.{own_stage}
@@ -40,7 +40,7 @@ abbrev rows : SyncName → Bool
 rows sync = list_all (λ access. list_all (row sync access) all_accesses) access_names
 
 each_row : (sync : SyncName) (access : AccessName) (x : VkAccess) → row sync access x ≡ true
-each_row sync access x = each_made (row sync access) (each_access (λ a. list_all (row sync a) all_accesses) (each_sync rows refl sync) access) x
+each_row sync access x = among_all (row sync access) x (each_access (λ a. list_all (row sync a) all_accesses) (each_sync rows refl sync) access)
 
 fits_stage : (sync : SyncName) (access : AccessName) (x : VkAccess) → is_access_of (fit.accesses_of_name sync) access ≡ true → is_one_of (accesses_of_name access) x ≡ true → supports_group (stage_of_name sync) (group_of x) ≡ true
 fits_stage sync access x h lowered =

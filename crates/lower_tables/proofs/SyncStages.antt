@@ -11,11 +11,11 @@ use Rattle.dx_flags.specs.Syncs.{sync_has, is_well_formed_sync}
 use Rattle.vk_types.specs.declared.stages.Stage.TheVariants.{AllCommands}
 use Rattle.vk_types.specs.declared.stages.Stages.{Stages}
 use Rattle.vk_types.specs.Stages.{meets, only_stage, has_stage}
+use Rattle.vk_types.specs.Whole.{stands_for_stage}
 use Rattle.lower_tables.proofs.Marks.{Test, implies, where_first, all_marks, at_marks}
 use Rattle.lower_tables.specs.Made.{stage_of_part}
 use Rattle.lower_tables.specs.Stages.{stage_of, stage_of_name, stage_bit_of_name}
 use Rattle.lower_tables.specs.Unions.{united}
-use Rattle.lower_tables.specs.Whole.{stands_for_stage}
 
 -- a set of syncs by its marks
 abbrev marked : Bool → Bool → Bool → Bool → Bool → Bool → Bool → SyncName → Bool

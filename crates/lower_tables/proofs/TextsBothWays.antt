@@ -1,5 +1,5 @@
 -- What goes by a name comes back.
-use Rattle.std.proofs.Common.{◌≡◌, ℕ, Bool, true, false, List, [], ◌∷◌, Option, Some, ◌==◌, if◌then◌else◌, map, refl, sym, ap, ◌∙◌, ◌⊎◌, inl, inr}
+use Rattle.std.proofs.Common.{◌≡◌, ℕ, Bool, true, List, [], ◌∷◌, Some, ◌==◌, map, refl, sym, ap, ◌∙◌, inl, inr}
 use Rattle.std.proofs.lemmas.Bool.{eqb-true}
 use Rattle.std.proofs.lemmas.Option.{none-some}
 use Rattle.std.proofs.lemmas.Slice.Eq.{bytes_eq-Decides}
@@ -18,14 +18,10 @@ use Rattle.dx_flags.specs.States.{one_state}
 use Rattle.dx_flags.specs.SyncNames as sync
 use Rattle.dx_flags.specs.SyncNames.{SyncName, sync_bit, sync_text, sync_names}
 use Rattle.dx_flags.specs.Syncs.{one_sync}
+use Rattle.lower_tables.proofs.FirstRows.{here_or_later}
 use Rattle.lower_tables.specs.Laws.{NamesAreOfSingles, NamesGoBothWays}
 use Rattle.lower_tables.specs.Names.{sync_named, sync_name, access_named, access_name, state_named, state_name, layout_named, layout_name, layout_text, all_layouts}
 use Rattle.lower_tables.specs.Rows.{first_where}
-
--- the first row passes, and has the value, or a later one has it
-here_or_later : {V : Type 0} (b : Bool) (x : V) (later : Option V) (v : V) → (if b then Some x else later) ≡ Some v → ((b ≡ true) × (v ≡ x)) ⊎ (later ≡ Some v)
-here_or_later true x later v h = let same : v ≡ x = cc in inl (refl, same)
-here_or_later false x later v h = inr h
 
 -- a value that is found is that of some name whose key passes
 found : {N K V : Type 0} (test : K → Bool) (key : N → K) (value : N → V) (names : List N) (v : V) → first_where test (map (λ n. (key n, value n)) names) ≡ Some v →
@@ -34,7 +30,7 @@ found test key value [] v h = absurd (none-some v h)
 found test key value (name ∷ names) v h =
     elim (here_or_later (test (key name)) (value name) (first_where test (map (λ n. (key n, value n)) names)) v h) [
       | inl here ↦ (name, here)
-      | inr later ↦ found test key value names v later
+      | inr later ↦ found test key value names v later.1
     ]
 
 -- equal texts

@@ -1,5 +1,6 @@
 -- Laws of the tables that lower Direct3D to Vulkan.
-use Rattle.std.specs.Prelude.{◌≡◌, ◌↔◌, ℕ, Bool, true, List, Some}
+use Rattle.std.specs.Prelude.{◌≡◌, ◌↔◌, ◌==◌, ◌++◌, ◌∷◌, ℕ, Bool, true, false, List, Some, None}
+use Rattle.std.specs.List.{list_any}
 use Rattle.dx_base.specs.declared.kinds.ListType.{ListType}
 use Rattle.dx_flags.specs.declared.accesses.Access.{Access}
 use Rattle.dx_flags.specs.declared.atoms.Kind.{Kind}
@@ -24,14 +25,31 @@ use Rattle.vk_types.specs.declared.stages.Stage.TheVariants.{AllCommands}
 use Rattle.vk_types.specs.declared.stages.Stages.{Stages}
 use Rattle.vk_types.specs.Stages.{meets, only_stage}
 use Rattle.vk_types.specs.Support.{supports}
+use Rattle.vk_types.specs.Whole.{stands_for_stage, stands_for_access, image_allows}
 use Rattle.lower_tables.specs.Accesses.{access_of}
 use Rattle.lower_tables.specs.Layouts.{layout_of}
 use Rattle.lower_tables.specs.Made.{stage_of_part, is_made_by}
 use Rattle.lower_tables.specs.Names.{layout_text, sync_named, sync_name, access_named, access_name, layout_named, layout_name, state_named, state_name}
 use Rattle.lower_tables.specs.Pairs.{state_has_pair}
+use Rattle.lower_tables.specs.Rows.{first_value}
 use Rattle.lower_tables.specs.Stages.{stage_of}
 use Rattle.lower_tables.specs.States.{state_of}
-use Rattle.lower_tables.specs.Whole.{stands_for_stage, stands_for_access, image_allows}
+
+-- some row has the key
+abbrev pub has_key : {V : Type 0} → ℕ → List (ℕ × V) → Bool
+has_key key rows = list_any (λ row. row.0 == key) rows
+
+-- a row has the key and the value, and no row before it has the key
+pub record IsInFirstRow {V : Type 0} (key : ℕ) (value : V) (rows : List (ℕ × V)) : Type 0 where
+  pub before : List (ℕ × V)
+  pub after : List (ℕ × V)
+  pub split : rows ≡ before ++ ((key, value) ∷ after)
+  pub first : has_key key before ≡ false
+
+-- a key finds nothing exactly where no row has it, and a value exactly where that is in the first row with the key
+pub record TheFirstRowCounts (V : Type 0) : Type 0 where
+  pub none : (key : ℕ) (rows : List (ℕ × V)) → (first_value key rows ≡ None) ↔ (has_key key rows ≡ false)
+  pub some : (key : ℕ) (rows : List (ℕ × V)) (value : V) → (first_value key rows ≡ Some value) ↔ IsInFirstRow key value rows
 
 -- a text names a value exactly where it is the text of a single name, and the value that name alone
 pub record NamesAreOfSingles : Type 0 where

@@ -5,7 +5,6 @@ pub mod Accesses
 pub mod Layouts
 pub mod States
 pub mod Names
-pub mod Whole
 pub mod Made
 pub mod Pairs
 pub mod Laws

@@ -1,6 +1,12 @@
 //! Laws of the tables. The functions do nothing.
 
-ghost use Rattle.lower_tables.specs.Laws.{NamesAreOfSingles, NamesGoBothWays, StagesTakeInParts, AccessesTakeInKinds, SyncsHaveStages, LayoutsAllowKinds, StatesTakeInPairs, LoweredIsSupported};
+ghost use Rattle.lower_tables.specs.Laws.{TheFirstRowCounts, NamesAreOfSingles, NamesGoBothWays, StagesTakeInParts, AccessesTakeInKinds, SyncsHaveStages, LayoutsAllowKinds, StatesTakeInPairs, LoweredIsSupported};
+
+/// A key finds nothing exactly where no row has it, and a value exactly where that stands in a row with the
+/// key and no row before it has the key.
+pub fn the_first_row_counts<V>()
+    ensures { TheFirstRowCounts V }
+{}
 
 /// A text names a value exactly where it is the text of a single name, and the value that name alone.
 pub fn names_are_of_singles()

@@ -45,8 +45,8 @@ at_place p [] i x h e = absurd (none-some x e)
 at_place p (y ∷ xs) zero x h e = let same : x ≡ y = cc in rw same (and_parts (p y) (list_all p xs) h).0
 at_place p (y ∷ xs) (suc i) x h e = at_place p xs i x (and_parts (p y) (list_all p xs) h).1 e
 
--- all accesses are in the list of all
-among_all : (p : Access → Bool) (x : Access) → list_all p all_accesses ≡ true → p x ≡ true
+-- a test that passes for all accesses passes for each
+pub among_all : (p : Access → Bool) (x : Access) → list_all p all_accesses ≡ true → p x ≡ true
 among_all p MemoryRead h = at_place p all_accesses 0 MemoryRead h refl
 among_all p MemoryWrite h = at_place p all_accesses 1 MemoryWrite h refl
 among_all p ShaderStorageRead h = at_place p all_accesses 2 ShaderStorageRead h refl

@@ -3,3 +3,4 @@ pub mod Stages
 pub mod Accesses
 pub mod Support
 pub mod Supported
+pub mod Whole
