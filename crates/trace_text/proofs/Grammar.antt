@@ -189,3 +189,10 @@ written_reads text v t =
     let short : 0 + length (text_of_lines t.lines) ≤ 16777216 = omega (arith, ap length t.text_is, t.short) in
     ap (λ ps. valued (pieces_from 1 0 opening ps)) pieces
     ∙ (ap valued (lines_from t.lines 1 0 opening w.reading w.reads w.ended short) ∙ ap Ok w.says)
+
+-- a text writes one value
+pub one_meaning : (text : List ℕ) (v u : Value) → IsTextOf text v → IsTextOf text u → v ≡ u
+one_meaning text v u t w =
+    let first = written_reads text v t in
+    let second = written_reads text u w in
+    cc

@@ -12,10 +12,11 @@ pub record SaysSound : Type 0 where
   pub lines : (v : Value) → IsWritten v → IsSound v
   pub traces : (t : Trace) → IsSound (seen t)
 
--- what is read of a text is what the text writes, and a text that writes a value is read as that value
+-- what is read of a text is what the text writes, a text that writes a value is read as that value, and no text writes two
 pub record ReadsTexts : Type 0 where
   pub read_writes : (text : List ℕ) (v : Value) → value_of text ≡ Ok v → IsTextOf text v
   pub written_reads : (text : List ℕ) (v : Value) → IsTextOf text v → value_of text ≡ Ok v
+  pub one_meaning : (text : List ℕ) (v u : Value) → IsTextOf text v → IsTextOf text u → v ≡ u
 
 -- the text of a value that lines write is read as that value, where it is at most 16,777,216 bytes long; so is the
 -- text of what a trace says

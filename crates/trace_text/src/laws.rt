@@ -8,8 +8,8 @@ pub fn a_trace_says_a_sound_value()
     ensures { SaysSound }
 {}
 
-/// What is read of a text is what its lines write, each ended by a line feed; and each text that writes a value, and
-/// is not too long, is read as that value.
+/// What is read of a text is what its lines write, each ended by a line feed; each text that writes a value, and
+/// is not too long, is read as that value; and no text writes two values.
 pub fn what_is_read_is_the_grammar()
     ensures { ReadsTexts }
 {}
