@@ -28,18 +28,20 @@ apart_from byte p xs apart all = All-from_get_or (λ b. eqb b byte ≡ false) xs
 plain_feeds : (b : ℕ) → is_plain_byte b ≡ true → eqb b 10 ≡ false
 plain_feeds b h = grind (arith, nat_tests)
 
--- a line holds no line feed
-no_feed : (line : List ℕ) → is_plain line ≡ true → All (λ b. eqb b 10 ≡ false) line
-unfolding is_plain
-no_feed line h = apart_from 10 is_plain_byte line plain_feeds (and_parts (nat_le (length line) 4096) (list_all is_plain_byte line) h).1
+-- the pieces of a text whose first line is of plain bytes
+pub pieces_more : (line : List ℕ) (lines : List (List ℕ)) → list_all is_plain_byte line ≡ true →
+    pieces_of (text_of_lines (line ∷ lines)) ≡ line ∷ pieces_of (text_of_lines lines)
+pieces_more line lines plain =
+    ap (slice_split (λ b. eqb b 10)) (append_assoc line (10 ∷ []) (text_of_lines lines))
+    ∙ slice_split_at (λ b. eqb b 10) line 10 (text_of_lines lines) (apart_from 10 is_plain_byte line plain_feeds plain) refl
 
 -- the pieces of a text of lines
 pub pieces_back : (lines : List (List ℕ)) → AllByRecursion (λ line. is_plain line ≡ true) lines → pieces_of (text_of_lines lines) ≡ lines ++ [] ∷ []
+unfolding is_plain
 pieces_back [] all = refl
 pieces_back (line ∷ lines) all =
-    ap (slice_split (λ b. eqb b 10)) (append_assoc line (10 ∷ []) (text_of_lines lines))
-    ∙ slice_split_at (λ b. eqb b 10) line 10 (text_of_lines lines) (no_feed line all.0) refl
-    ∙ ap (λ more. line ∷ more) (pieces_back lines all.1)
+    let plain = (and_parts (nat_le (length line) 4096) (list_all is_plain_byte line) all.0).1 in
+    pieces_more line lines plain ∙ ap (λ more. line ∷ more) (pieces_back lines all.1)
 
 -- a text whose last line is followed by nothing
 join_lines : (lines : List (List ℕ)) → join_with_byte 10 (lines ++ [] ∷ []) ≡ text_of_lines lines

@@ -23,3 +23,10 @@ pub mod PrintedItems
 pub mod PrintedTraces
 pub mod Printing
 pub mod Leaving
+pub mod PartsBack
+pub mod NamesBack
+pub mod FormsBack
+pub mod SoundItems
+pub mod SoundCalls
+pub mod Reaching
+pub mod SoundReads

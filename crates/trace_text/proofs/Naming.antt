@@ -62,13 +62,13 @@ module _ {X : Type 0} where
       by_test false behind e = behind e
 
   -- an item of a list, and the item behind a list
-  get_front : (xs ys : List X) (i : ℕ) (x : X) → slice_get xs i ≡ Some x → slice_get (xs ++ ys) i ≡ Some x
+  pub get_front : (xs ys : List X) (i : ℕ) (x : X) → slice_get xs i ≡ Some x → slice_get (xs ++ ys) i ≡ Some x
   get_front [] ys i x e = cc
   get_front (y ∷ xs) ys zero x e = e
   get_front (y ∷ xs) ys (suc i) x e = get_front xs ys i x e
 
   -- the item behind a list
-  get_last : (xs : List X) (x : X) → slice_get (xs ++ x ∷ []) (length xs) ≡ Some x
+  pub get_last : (xs : List X) (x : X) → slice_get (xs ++ x ∷ []) (length xs) ≡ Some x
   get_last [] x = refl
   get_last (y ∷ xs) x = get_last xs x
 
@@ -115,7 +115,7 @@ ArePlaced names ds =
     slice_get (names_of_kind k (names_in names) ds) i ≡ Some w
 
 -- a kind is itself
-kind_same : (k : Kind) → same_kind k k ≡ true
+pub kind_same : (k : Kind) → same_kind k k ≡ true
 kind_same kind.Queue = refl
 kind_same kind.Fence = refl
 kind_same kind.Resource = refl

@@ -112,7 +112,7 @@ are_words [] all = tt
 are_words (w ∷ ws) all = (all.0.one, are_words ws all.1)
 
 -- the bytes of a line of plain words are plain
-plain_line : (word : List ℕ) (ws : List (List ℕ)) → IsPlainWord word → ArePlain ws → list_all is_plain_byte (line_of (word ∷ ws)) ≡ true
+pub plain_line : (word : List ℕ) (ws : List (List ℕ)) → IsPlainWord word → ArePlain ws → list_all is_plain_byte (line_of (word ∷ ws)) ≡ true
 plain_line word [] one all = one.plain
 plain_line word (next ∷ ws) one all =
     list_all-append is_plain_byte word (32 ∷ line_of (next ∷ ws))

@@ -46,7 +46,7 @@ AllFixed (one_and p r) = Fixed p × FixedRest r
 AllFixed (two_and p q r) = Fixed p × Fixed q × FixedRest r
 
 -- the name of a place
-name_there : (names : List (List ℕ)) (i : ℕ) (w : List ℕ) → slice_get names i ≡ Some w → name_at names i ≡ w
+pub name_there : (names : List (List ℕ)) (i : ℕ) (w : List ℕ) → slice_get names i ≡ Some w → name_at names i ≡ w
 name_there names i w at = rw (at, name_at) refl
 
 module _ (names : Names) (ds : List Declared) (placed : ArePlaced names ds) where

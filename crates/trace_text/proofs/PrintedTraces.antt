@@ -279,7 +279,7 @@ unfolding item_text
 item_line known i = line_is _ _
 
 -- the text of items is that of their lines
-text_is : (known : KnownNames) (items : List Item) → flat_map (item_text known) items ≡ text_of_lines (printed_lines known items)
+pub text_is : (known : KnownNames) (items : List Item) → flat_map (item_text known) items ≡ text_of_lines (printed_lines known items)
 text_is known [] = refl
 text_is known (i ∷ items) = rw (item_line known i, text_is known items) refl
 

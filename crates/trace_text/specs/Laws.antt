@@ -1,5 +1,7 @@
 -- Laws of the text of a trace.
 use Rattle.std.specs.Prelude.{ℕ, ◌≡◌, ◌≤◌, List, length, take, Ok}
+use Rattle.std.specs.List.{All}
+use Rattle.trace_words.specs.Lines.{pieces_of}
 use Rattle.trace_text.specs.declared.trace.Trace.{Trace}
 use Rattle.trace_text.specs.Grammar.{IsTextOf}
 use Rattle.trace_text.specs.Items.{trace_text}
@@ -23,6 +25,14 @@ pub record ReadsTexts : Type 0 where
 pub record PrintsBack : Type 0 where
   pub lines : (v : Value) → IsWritten v → length (trace_text v) ≤ 16777216 → value_of (trace_text v) ≡ Ok v
   pub traces : (t : Trace) → length (trace_text (seen t)) ≤ 16777216 → value_of (trace_text (seen t)) ≡ Ok (seen t)
+
+-- each line of the text of a value has at most 4,096 bytes, its line feed not counted
+abbrev pub HasShortLines : Value → Type 0
+HasShortLines v = All (λ line. length line ≤ 4096) (pieces_of (trace_text v))
+
+-- each sound value is read of its own text, where no line of the text and not the text itself is too long
+abbrev pub ReadsSound : Type 0
+ReadsSound = (v : Value) → IsSound v → HasShortLines v → length (trace_text v) ≤ 16777216 → value_of (trace_text v) ≡ Ok v
 
 -- what the first bytes of a text say, up to the first past the limit, is what the whole text says, its bad line and cause included
 abbrev pub FirstBytesCount : Type 0

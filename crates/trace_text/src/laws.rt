@@ -1,6 +1,6 @@
 //! Laws of the text of a trace. The functions do nothing.
 
-ghost use Rattle.trace_text.specs.Laws.{SaysSound, ReadsTexts, PrintsBack, FirstBytesCount};
+ghost use Rattle.trace_text.specs.Laws.{SaysSound, ReadsTexts, PrintsBack, ReadsSound, FirstBytesCount};
 
 /// What lines write is sound, and so is what each trace says: names are spelled well and differ, calls name objects,
 /// and all limits are kept.
@@ -17,6 +17,12 @@ pub fn what_is_read_is_the_grammar()
 /// The text of a trace is read as that trace, where it is not too long.
 pub fn a_printed_trace_reads_as_it_was()
     ensures { PrintsBack }
+{}
+
+/// Each sound value is read of its own text, where no line of it is longer than 4,096 bytes and it is not too long
+/// itself: no rule but those of `IsSound` keeps a value from being what a text says.
+pub fn each_sound_value_is_read_of_its_text()
+    ensures { ReadsSound }
 {}
 
 /// The first 16,777,217 bytes of a text say what the whole text says: the value, or the first bad line and its cause.

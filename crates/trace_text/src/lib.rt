@@ -36,8 +36,8 @@ mod world_of;
 
 pub use history::print_history;
 pub use laws::{
-    a_printed_trace_reads_as_it_was, a_trace_says_a_sound_value, only_the_first_bytes_count,
-    what_is_read_is_the_grammar,
+    a_printed_trace_reads_as_it_was, a_trace_says_a_sound_value,
+    each_sound_value_is_read_of_its_text, only_the_first_bytes_count, what_is_read_is_the_grammar,
 };
 pub use object::Declared;
 pub use outcome::{Outcome, output, refused_of};
