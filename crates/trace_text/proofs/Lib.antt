@@ -30,3 +30,4 @@ pub mod SoundItems
 pub mod SoundCalls
 pub mod Reaching
 pub mod SoundReads
+pub mod SoundWritten

@@ -29,7 +29,7 @@ use Rattle.trace_text.specs.Reading.{opening, and_then, with_item, class_of, is_
 use Rattle.trace_text.specs.Seen.{seen}
 use Rattle.trace_text.specs.Shapes.{Values, made, read_form, read_parts}
 use Rattle.trace_text.specs.Texts.{with_line}
-use Rattle.trace_text.specs.Values.{Value, value_in, value_of, with_lines, IsWritten}
+use Rattle.trace_text.specs.Values.{Value, value_in, value_of, with_lines, AreLinesOf, IsWritten}
 use Rattle.trace_text.proofs.Grammar.{written_reads}
 use Rattle.trace_text.proofs.Meaning.{made_of, parts_mean}
 use Rattle.trace_text.proofs.Naming.{names_in}
@@ -297,19 +297,31 @@ begun_by : (r : Reading) → r.ended ≡ true → (r ≡ opening) ⊎ (r.begun �
 begun_by r ended (inl is) = let not_yet : r.ended ≡ false = ap (λ (u : Reading). u.ended) is in cc
 begun_by r ended (inr is) = is
 
--- the text of a value that lines write is read as that value
-pub prints_back : (v : Value) → IsWritten v → length (trace_text v) ≤ 16777216 → value_of (trace_text v) ≡ Ok v
-prints_back v w short =
+-- the lines of its own text write a value
+pub record WritesItself (v : Value) : Type 0 where
+  pub lines : List (List ℕ)
+  pub write : AreLinesOf lines v
+  pub text : trace_text v ≡ text_of_lines lines
+
+-- a value that lines write is written by those of its own text
+pub writes_itself : (v : Value) → IsWritten v → WritesItself v
+writes_itself v w =
     let r = w.written.reading in
     let p = lines_keep IsPrinted line_printed w.lines opening r opening_printed w.written.reads in
     let begun = begun_by r w.written.ended p.begun in
-    let text : trace_text v ≡ text_of_lines (lines_in r) = ap trace_text (sym w.written.says) ∙ text_printed r begun w.written.ended in
-    written_reads (trace_text v) v (record {
+    record {
       lines = lines_in r;
       write = record { reading = r; reads = p.reads; ended = w.written.ended; says = w.written.says };
-      text_is = text;
-      short = short;
-    })
+      text = ap trace_text (sym w.written.says) ∙ text_printed r begun w.written.ended;
+    }
+
+-- and is read of that text
+pub reads_itself : (v : Value) → WritesItself v → length (trace_text v) ≤ 16777216 → value_of (trace_text v) ≡ Ok v
+reads_itself v own short = written_reads (trace_text v) v (record { lines = own.lines; write = own.write; text_is = own.text; short = short })
+
+-- the text of a value that lines write is read as that value
+pub prints_back : (v : Value) → IsWritten v → length (trace_text v) ≤ 16777216 → value_of (trace_text v) ≡ Ok v
+prints_back v w short = reads_itself v (writes_itself v w) short
 
 -- a value is told from another
 value_set : IsSet (Result Value (ℕ × Cause))

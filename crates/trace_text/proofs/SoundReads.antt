@@ -1,4 +1,4 @@
--- Each sound value is read of its own text.
+-- From what was read, the lines of the rest of a sound value give that value: the objects and the thread.
 use Rattle.std.proofs.Common.{ℕ, ◌≡◌, ◌≤◌, ◌+◌, ◌&&◌, ◌∙◌, nat_le, nat_lt, Bool, true, false, List, [], ◌∷◌, ◌++◌, length, map, drop, refl, sym, ap, subst, arith, append_assoc, append-nil, length-append, if◌then◌else◌}
 use Rattle.std.specs.List.{All, list_all, IsDistinct}
 use Rattle.std.specs.Str.{bytes_eq}
@@ -17,16 +17,15 @@ use Rattle.trace_text.specs.declared.things.Thing.{Thing}
 use Rattle.trace_text.specs.Items.{items_of, object_items, thread_items, trace_text}
 use Rattle.trace_text.specs.Kinds.{kind_of, count_of, most_of, words_of_object, words_of_all, next_thing, is_one_too_many}
 use Rattle.trace_text.specs.Known.{known_names}
-use Rattle.trace_text.specs.Laws.{ReadsSound}
+use Rattle.trace_text.specs.Laws.{HasShortLines}
 use Rattle.trace_text.specs.Reading.{opening, with_item}
 use Rattle.trace_text.specs.Sound.{is_fit_name, is_sound_object, IsSound}
 use Rattle.trace_text.specs.Things.{same_kind}
 use Rattle.trace_text.specs.Values.{Value}
-use Rattle.trace_text.proofs.Grammar.{written_reads}
 use Rattle.trace_text.proofs.NamesBack.{AreNamed, fresh_among, named_object, named_thread}
 use Rattle.trace_text.proofs.Naming.{names_in, insert_new, kind_same}
 use Rattle.trace_text.proofs.PrintedItems.{printed_lines}
-use Rattle.trace_text.proofs.PrintedTraces.{text_is}
+use Rattle.trace_text.proofs.PrintedTraces.{text_is, WritesItself}
 use Rattle.trace_text.proofs.Reaching.{AreShort, Reaches, reach_item, reach_end, InCalls, reach_calls}
 use Rattle.trace_text.proofs.SoundItems.{IsOpen, header_fits, CanName, object_fits, thread_fits}
 
@@ -179,18 +178,17 @@ start v = record {
   objects = refl;
 }
 
--- each sound value is read of its own text
-pub sound_reads : ReadsSound
+-- the lines of its own text write each sound value
+pub sound_writes : (v : Value) → IsSound v → HasShortLines v → WritesItself v
 unfolding trace_text
-sound_reads v sound lines short =
+sound_writes v sound short =
     let known = known_names v.names v.declared in
     let text = text_is known (items_of v) in
     let all = reach_item opening known Header (lines_left v v.names v.declared) v (header_fits known)
-    (subst (λ some. All (λ line. length line ≤ 4096) (pieces_of some)) text lines)
+    (subst (λ some. All (λ line. length line ≤ 4096) (pieces_of some)) text short)
     (λ s. reach_objects v sound v.declared v.names (with_item opening Header) (start v) s) in
-    written_reads (trace_text v) v (record {
+    record {
       lines = printed_lines known (items_of v);
       write = record { reading = all.reading; reads = all.reads; ended = all.ended; says = all.says };
-      text_is = text;
-      short = short;
-    })
+      text = text;
+    }

@@ -1,5 +1,5 @@
 -- Laws of the text of a trace.
-use Rattle.std.specs.Prelude.{ℕ, ◌≡◌, ◌≤◌, List, length, take, Ok}
+use Rattle.std.specs.Prelude.{ℕ, ◌≡◌, ◌↔◌, ◌≤◌, List, length, take, Ok}
 use Rattle.std.specs.List.{All}
 use Rattle.trace_words.specs.Lines.{pieces_of}
 use Rattle.trace_text.specs.declared.trace.Trace.{Trace}
@@ -30,9 +30,11 @@ pub record PrintsBack : Type 0 where
 abbrev pub HasShortLines : Value → Type 0
 HasShortLines v = All (λ line. length line ≤ 4096) (pieces_of (trace_text v))
 
--- each sound value is read of its own text, where no line of the text and not the text itself is too long
-abbrev pub ReadsSound : Type 0
-ReadsSound = (v : Value) → IsSound v → HasShortLines v → length (trace_text v) ≤ 16777216 → value_of (trace_text v) ≡ Ok v
+-- lines write a value exactly where it is sound and no line of its text is too long; and then it is read of that text,
+-- where the whole text is not too long
+pub record ReadsSound : Type 0 where
+  pub written : (v : Value) → IsWritten v ↔ (IsSound v × HasShortLines v)
+  pub reads : (v : Value) → IsSound v → HasShortLines v → length (trace_text v) ≤ 16777216 → value_of (trace_text v) ≡ Ok v
 
 -- what the first bytes of a text say, up to the first past the limit, is what the whole text says, its bad line and cause included
 abbrev pub FirstBytesCount : Type 0

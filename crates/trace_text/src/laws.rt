@@ -19,8 +19,8 @@ pub fn a_printed_trace_reads_as_it_was()
     ensures { PrintsBack }
 {}
 
-/// Each sound value is read of its own text, where no line of it is longer than 4,096 bytes and it is not too long
-/// itself: no rule but those of `IsSound` keeps a value from being what a text says.
+/// Each sound value is read of its own text, where no line of it is longer than 4,096 bytes and it is not longer than
+/// 16,777,216. So the values that lines write are exactly the sound ones without longer lines.
 pub fn each_sound_value_is_read_of_its_text()
     ensures { ReadsSound }
 {}
