@@ -65,15 +65,21 @@ fn parts_of_a_trace_are_read_up_to_their_limits(rt: HostRuntime) -> Result<(), F
     Ok(())
 }
 
-/// A text that declares so many objects of a kind: a line is what stands before its number, and behind it.
-fn declaring(alloc: Global, line: (&str, &str), count: usize) -> Result<String, AllocError> {
+/// A text that declares so many objects of a kind: a line is what stands before its number, and behind it. The last
+/// lines stand behind these.
+fn declaring(
+    alloc: Global,
+    line: (&str, &str),
+    count: usize,
+    last: &str,
+) -> Result<String, AllocError> {
     let (before, behind) = line;
     let mut text = String::new(alloc);
     text.push_str("d3dtrace 1\n")?;
     for object in 0..count {
         text.push_str(format!(in alloc; "{before}{object}{behind}\n")?.as_str())?;
     }
-    text.push_str("end\n")?;
+    text.push_str(last)?;
     Ok(text)
 }
 
@@ -88,9 +94,9 @@ fn a_trace_has_so_many_objects_of_a_kind_and_no_more(rt: HostRuntime) -> Result<
         (("list l", " direct"), 1024),
     ];
     for (line, most) in kinds {
-        let text = declaring(alloc, line, most)?;
+        let text = declaring(alloc, line, most, "end\n")?;
         assert_eq!(rt; refusal(alloc, text.as_str())?, None, "{}", line.0);
-        let text = declaring(alloc, line, most + 1)?;
+        let text = declaring(alloc, line, most + 1, "end\n")?;
         let behind = most as u64 + 2;
         assert_eq!(rt;
             refusal(alloc, text.as_str())?,
@@ -99,6 +105,17 @@ fn a_trace_has_so_many_objects_of_a_kind_and_no_more(rt: HostRuntime) -> Result<
             line.0
         );
     }
+    Ok(())
+}
+
+#[test]
+fn a_bad_name_is_told_before_a_limit(rt: HostRuntime) -> Result<(), Fail> {
+    let alloc = rt.alloc();
+    let calls = "d3dtrace 1\nfence f 0\nthread t\n";
+    let text = repeated(alloc, (calls, "value f\n", 65_536, "value x\nend\n"))?;
+    assert_eq!(rt; refusal(alloc, text.as_str())?, Some((65_540, Cause::Name)));
+    let text = declaring(alloc, ("fence f", " 0"), 256, "fence f0 0\nend\n")?;
+    assert_eq!(rt; refusal(alloc, text.as_str())?, Some((258, Cause::Again)));
     Ok(())
 }
 

@@ -109,6 +109,56 @@ fn refused_parts() -> [(&'static str, u64, Cause); 8] {
     ]
 }
 
+/// A line of each form that is not built yet, by its first word or by the one that tells it apart.
+fn later_lines() -> [&'static str; 29] {
+    [
+        "texture x legacy COMMON 4 4 1 1 plain",
+        "view v srv x 0",
+        "heap h visible 8",
+        "signature s 1.0 const:0:1",
+        "copytex l x 0 y 0",
+        "copyin l x 0 b 0 256",
+        "copyout l b 0 256 x 0",
+        "setheap l h",
+        "setroot l s",
+        "setconst l 0 0 3",
+        "settable l 1 0",
+        "setbuffer l 0 b 0",
+        "clear l 0 0",
+        "dispatch l fill 64",
+        "barrier l global ALL ALL COMMON COMMON",
+        "transition l b all COMMON COPY_DEST",
+        "uavbarrier l all",
+        "resetalloc a",
+        "wait q f 1",
+        "descriptor h 0 v",
+        "copydesc h 0 h 1",
+        "queue q compute",
+        "queue q copy",
+        "allocator a compute",
+        "allocator a copy",
+        "list l compute",
+        "list l copy",
+        "buffer b legacy 16",
+        "buffer b enhanced 16",
+    ]
+}
+
+#[test]
+fn a_line_of_each_later_form_is_refused_as_later(rt: HostRuntime) -> Result<(), Fail> {
+    for line in later_lines() {
+        for behind in ["", " x"] {
+            let text = format!(in rt.alloc(); "d3dtrace 1\n{line}{behind}\nend\n")?;
+            assert_eq!(rt;
+                refusal(rt.alloc(), text.as_str())?,
+                Some((2, Cause::Later)),
+                "{line}"
+            );
+        }
+    }
+    Ok(())
+}
+
 /// The text is refused at that line with that cause.
 fn is_refused(alloc: Global, row: (&str, u64, Cause)) -> Result<bool, Memory> {
     let (text, line, cause) = row;
