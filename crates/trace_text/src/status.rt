@@ -6,30 +6,32 @@ ghost use Rattle.trace_text.specs.Status.{exit_code_of, cause_word, rule_word};
 use d3d_machine::Event;
 use dx_base::{Step, Torn};
 
-/// Why a trace is refused.
+/// Why a trace is refused: the first of these that applies to its first bad line.
 #[derive(Clone, Copy, Debug, PartialEq, Eq)]
 pub enum Cause {
-    /// The text is longer than a trace may be.
+    /// The line holds the first byte past the most that a text may have.
     Size,
-    /// A line is too long, or has a byte that no line has.
+    /// The line is too long, or has a byte that no line has.
     Line,
-    /// The text stops inside a line, or before its last line.
+    /// The line has no line feed, or the text stops there and no `end` came.
     Cut,
-    /// A byte stands behind the last line.
+    /// The line stands behind `end`.
     After,
-    /// A form of a later version of the text.
+    /// The line is of a form that is not built yet, or says version 2 of the text.
     Later,
-    /// A line that may not stand there.
+    /// The line has a form and may not stand there: it is a call before the first thread, a declaration of an object
+    /// behind it, or a second header.
     Order,
-    /// The words are of no form.
+    /// The line is of no form, or is the first line and not the header.
     Form,
-    /// A number is out of its range.
+    /// A number of the line is 2^64 or more.
     Number,
-    /// A name is declared again.
+    /// The line declares a name that is declared.
     Again,
-    /// A name is not declared.
+    /// The line names nothing that was declared before it, or a thing of another kind.
     Name,
-    /// More objects than a world may have.
+    /// The line passes a limit: on the bytes of a name, on the count of objects of a kind, on the words of all buffers
+    /// together, on the count of calls, or on the count of lists that calls of execute name.
     Limit,
 }
 
