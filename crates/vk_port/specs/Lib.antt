@@ -15,6 +15,7 @@ pub mod Seen
 pub mod Lost
 pub mod Stored
 pub mod Tied
+pub mod Plain
 pub mod Meaning
 pub mod Laws
 pub mod Examples

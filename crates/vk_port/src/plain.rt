@@ -1,6 +1,13 @@
 //! A device without caches and without free steps.
 
-ghost use Rattle.std.specs.Prelude.{◌≡◌, IfSome};
+ghost use Rattle.std.specs.Prelude.{◌≡◌, ◌<◌, ◌≤◌, ◌+◌, true, [], List, length, slice_get, Option, Some, None, IfSome, IsSome, IfOk, OnOk, OnErr};
+ghost use Rattle.vk_port.specs.Causes.{HasCause};
+ghost use Rattle.vk_port.specs.Lost.{CountsCall};
+ghost use Rattle.vk_port.specs.Offers.{steps_offered, rest_taken, IsInside};
+ghost use Rattle.vk_port.specs.Plans.{has_only_buffers};
+ghost use Rattle.vk_port.specs.VkState.{first_state, words_of};
+ghost use Rattle.vk_port.specs.VkSteps.{enabled_steps, after_step, after_submit, after_host_write, after_host_read, range_of, next_number, fits_plan};
+ghost use Rattle.vk_port.specs.declared.steps.Stepped.TheVariants.{Free};
 ghost use Rattle.vk_port.specs.Tied.{IsTied};
 
 use crate::calls::Calls;
@@ -55,17 +62,31 @@ impl PlainDevice {
 }
 
 impl VkDevice for PlainDevice {
-    ghost plan_of = { λ d. d.kept.seen.plan };
+    ghost use Rattle.vk_port.specs.Plain.{plan_of, state, rest_of, offered, faults};
 
-    ghost state = { λ d. d.kept.seen.state };
+    ghost plan_of = { plan_of };
 
-    ghost rest_of = { λ _. 0 };
+    ghost state = { state };
 
-    ghost offered = { λ _. 0 };
+    ghost rest_of = { rest_of };
 
-    ghost faults = { λ d. d.calls.faults };
+    ghost offered = { offered };
 
-    fn create(&mut self, plan: &DevicePlan) -> Result<(), DeviceFault> {
+    ghost faults = { faults };
+
+    fn create(&mut self, plan: &DevicePlan) -> Result<(), DeviceFault>
+        requires no_plan { plan_of self.old ≡ None }
+        requires new { (state self.old).journal ≡ [] }
+        requires buffers { has_only_buffers plan.now ≡ true }
+        ensures plan { OnOk result (plan_of self.new ≡ Some plan.now) }
+        ensures state { OnOk result (state self.new ≡ first_state plan.now) }
+        ensures rest { rest_of self.new ≡ rest_of self.old }
+        ensures same_plan { OnErr result (plan_of self.new ≡ None) }
+        ensures same_state { OnErr result (state self.new ≡ state self.old) }
+        ensures faults { faults self.old ≤ faults self.new }
+        ensures cause { HasCause (faults self.old) (faults self.new) result }
+        ensures counts { CountsCall self.old.calls self.new.calls result }
+    {
         self.calls.begin()?;
         let store = Store::new(self.alloc, plan)?;
         let kept = self.kept.then(&Note::Create(plan));
@@ -74,7 +95,18 @@ impl VkDevice for PlainDevice {
         Ok(())
     }
 
-    fn submit(&mut self, batch: Batch) -> Result<(), DeviceFault> {
+    fn submit(&mut self, batch: Batch) -> Result<(), DeviceFault>
+        requires number { batch.number ≡ next_number batch.queue (state self.old).journal }
+        requires plan { IsSome (plan_of self.old) }
+        requires fits { IfSome (plan_of self.old) (λ plan. fits_plan plan batch ≡ true) }
+        ensures state { OnOk result (state self.new ≡ after_submit (state self.old) batch) }
+        ensures plan { plan_of self.new ≡ plan_of self.old }
+        ensures rest { rest_of self.new ≡ rest_of self.old }
+        ensures same_state { OnErr result (state self.new ≡ state self.old) }
+        ensures faults { faults self.old ≤ faults self.new }
+        ensures cause { HasCause (faults self.old) (faults self.new) result }
+        ensures counts { CountsCall self.old.calls self.new.calls result }
+    {
         self.calls.begin()?;
         let kept = self.kept.then(&Note::Submit(&batch));
         self.store.submit(self.alloc, batch)?;
@@ -86,14 +118,35 @@ impl VkDevice for PlainDevice {
         value_of(&self.store.timelines, timeline)
     }
 
-    fn host_read(&mut self, buffer: u32, first: u32, count: u32) -> Result<Vec<u32>, DeviceFault> {
-        self.calls.begin()?;
+    fn host_read(&mut self, buffer: u32, first: u32, count: u32) -> Result<Vec<u32>, DeviceFault>
+        requires plan { IsSome (plan_of self.old) }
+        requires inside { IsInside (state self.old) buffer first count }
+        ensures words { IfOk result (λ read. read.items ≡ range_of first count (words_of (state self.old) buffer)) }
+        ensures state { OnOk result (state self.new ≡ after_host_read (state self.old) buffer first count) }
+        ensures plan { plan_of self.new ≡ plan_of self.old }
+        ensures rest { rest_of self.new ≡ rest_of self.old }
+        ensures same_state { OnErr result (state self.new ≡ state self.old) }
+        ensures faults { faults self.old ≤ faults self.new }
+        ensures cause { HasCause (faults self.old) (faults self.new) result }
+        ensures counts { CountsCall self.old.calls self.new.calls result }
+    {
+        self.calls.begin()?; // A read is lost too, though it changes nothing.
         let words = copy_at(self.alloc, &self.store.words, buffer, first, count)?;
         self.kept = self.kept.then(&Note::HostRead(buffer, first, count));
         Ok(words)
     }
 
-    fn host_write(&mut self, buffer: u32, first: u32, words: &[u32]) -> Result<(), DeviceFault> {
+    fn host_write(&mut self, buffer: u32, first: u32, words: &[u32]) -> Result<(), DeviceFault>
+        requires plan { IsSome (plan_of self.old) }
+        requires inside { IsInside (state self.old) buffer first (length words.now) }
+        ensures state { OnOk result (state self.new ≡ after_host_write (state self.old) buffer first words.now) }
+        ensures plan { plan_of self.new ≡ plan_of self.old }
+        ensures rest { rest_of self.new ≡ rest_of self.old }
+        ensures same_state { OnErr result (state self.new ≡ state self.old) }
+        ensures faults { faults self.old ≤ faults self.new }
+        ensures cause { HasCause (faults self.old) (faults self.new) result }
+        ensures counts { CountsCall self.old.calls self.new.calls result }
+    {
         self.calls.begin()?;
         self.store.write(buffer, first, words);
         self.kept = self.kept.then(&Note::HostWrite(buffer, first, words));
@@ -104,7 +157,23 @@ impl VkDevice for PlainDevice {
         self.store.count()
     }
 
-    fn step<S: Sets>(&mut self, k: usize, _sets: &mut S) -> Result<Stepped, DeviceFault> {
+    fn step<S: Sets>(&mut self, k: usize, _sets: &mut S) -> Result<Stepped, DeviceFault>
+        requires plan { IsSome (plan_of self.old) }
+        requires offered { k < steps_offered (state self.old) (offered self.old) }
+        requires unread { S.given _sets.old ≡ [] }
+        ensures named { k < length (enabled_steps (state self.old)) → IfOk result (λ s. slice_get (enabled_steps (state self.old)) k ≡ Some s) }
+        ensures free { length (enabled_steps (state self.old)) ≤ k → IfOk result (λ s. s ≡ Free) }
+        ensures state { IfOk result (λ s. state self.new ≡ after_step (state self.old) s) }
+        ensures rest { IfOk result (λ s. rest_of self.old ≡ rest_of self.new + rest_taken s) }
+        ensures loads { S.given _sets.new ≡ [] }
+        ensures sizes { S.sizes _sets.new ≡ S.sizes _sets.old }
+        ensures plan { plan_of self.new ≡ plan_of self.old }
+        ensures same_state { OnErr result (state self.new ≡ state self.old) }
+        ensures same_rest { OnErr result (rest_of self.new ≡ rest_of self.old) }
+        ensures faults { faults self.old ≤ faults self.new }
+        ensures cause { HasCause (faults self.old) (faults self.new) result }
+        ensures counts { CountsCall self.old.calls self.new.calls result }
+    {
         self.calls.begin()?;
         match self.store.find(k) {
             Found::Left(_) => unreachable!(),
