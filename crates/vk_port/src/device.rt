@@ -92,11 +92,12 @@ pub trait VkDevice {
         ensures none_at_rest { rest_of self.now ≡ 0 → offered self.now ≡ 0 };
 
     /// Takes the step of that place among those that can be taken. What a command reads from descriptor
-    /// sets is loaded from `sets`.
+    /// sets is loaded from `sets`, which have the sizes of the plan's heaps.
     fn step<S: Sets>(&mut self, k: usize, sets: &mut S) -> Result<Stepped, DeviceFault>
         requires plan { IsSome (plan_of self.old) }
         requires offered { k < steps_offered (state self.old) (offered self.old) }
         requires unread { S.given sets.old ≡ [] }
+        requires sizes { IfSome (plan_of self.old) (λ plan. S.sizes sets.old ≡ plan.heaps) }
         ensures named { k < length (enabled_steps (state self.old)) → IfOk result (λ s. slice_get (enabled_steps (state self.old)) k ≡ Some s) }
         ensures free { length (enabled_steps (state self.old)) ≤ k → IfOk result (λ s. s ≡ Free) }
         ensures state { IfOk result (λ s. state self.new ≡ after_step (state self.old) s) }

@@ -161,6 +161,7 @@ impl VkDevice for PlainDevice {
         requires plan { IsSome (plan_of self.old) }
         requires offered { k < steps_offered (state self.old) (offered self.old) }
         requires unread { S.given _sets.old ≡ [] }
+        requires sizes { IfSome (plan_of self.old) (λ plan. S.sizes _sets.old ≡ plan.heaps) }
         ensures named { k < length (enabled_steps (state self.old)) → IfOk result (λ s. slice_get (enabled_steps (state self.old)) k ≡ Some s) }
         ensures free { length (enabled_steps (state self.old)) ≤ k → IfOk result (λ s. s ≡ Free) }
         ensures state { IfOk result (λ s. state self.new ≡ after_step (state self.old) s) }

@@ -1,6 +1,6 @@
 //! Runs written by hand.
 
-ghost use Rattle.std.specs.Prelude.{◌≡◌, map, length, IfOk, IsSome};
+ghost use Rattle.std.specs.Prelude.{◌≡◌, [], map, length, IfOk, IsSome, IfSome};
 ghost use Rattle.vk_port.specs.Examples.{two_buffers, one_copy};
 
 use crate::device::VkDevice;
@@ -72,7 +72,8 @@ fn copy_of(alloc: Global, queue: u32, number: u64, first: u32) -> Result<Batch, 
 /// Takes the step of that place, if there is one. The sizes of the buffers stay.
 #[tactic(auto, using(crate::proofs::Matching::step_sizes))]
 fn take<D: VkDevice>(device: &mut D, k: usize) -> Result<Stepped, DeviceFault>
-    requires { IsSome (D.plan_of device.old) }
+    requires plan { IsSome (D.plan_of device.old) }
+    requires heaps { IfSome (D.plan_of device.old) (λ plan. plan.heaps ≡ []) }
     ensures plan { D.plan_of device.new ≡ D.plan_of device.old }
     ensures sizes { map length (D.state device.new).words ≡ map length (D.state device.old).words }
 {
@@ -90,7 +91,8 @@ fn run<D: VkDevice>(
     device: &mut D,
     choices: &[usize],
 ) -> Result<Seq<Stepped>, DeviceFault>
-    requires { IsSome (D.plan_of device.old) }
+    requires plan { IsSome (D.plan_of device.old) }
+    requires heaps { IfSome (D.plan_of device.old) (λ plan. plan.heaps ≡ []) }
     ensures plan { D.plan_of device.new ≡ D.plan_of device.old }
     ensures sizes { map length (D.state device.new).words ≡ map length (D.state device.old).words }
 {
