@@ -8,13 +8,15 @@ use Rattle.vk_port.specs.declared.steps.Stepped.{Stepped}
 use Rattle.vk_port.specs.declared.steps.Stepped.TheVariants.{Passed, Ran, Bumped, Free}
 use Rattle.vk_port.specs.VkState.{VkState, lane_of, no_lane}
 use Rattle.vk_port.specs.Enabled.{reached, ready_pass, passes, undone, batch_commands, lane_commands, commands, all_done, ready_bump, bumps, enabled_steps, ready_command}
-use Rattle.vk_port.specs.Meaning.{IsEnabled}
+use Rattle.vk_port.specs.Meaning.{IsEnabled, IsInOrder}
 use Rattle.vk_port.specs.Offers.{rest_taken}
 use Rattle.vk_port.specs.Orders.{can_run}
 use Rattle.vk_port.specs.Stored.{IsTakable}
 use Rattle.std.proofs.lemmas.Bool.{ltb-true}
+use Rattle.std.proofs.lemmas.List.{append-nil}
 use Rattle.std.proofs.lemmas.Option.{none-some, slice_get_within, get_or_from_slice_get}
 use Rattle.std.proofs.Math.ListN.{length-take}
+use Rattle.vk_port.proofs.Earlier.{all_undone, earlier, earlier_done, earlier_left, earlier_batch, in_order_of}
 use Rattle.vk_port.proofs.Lists.{head_at, tail_at, get_of_take}
 
 -- a fact of each item of two lists
@@ -73,14 +75,16 @@ module _ (v : VkState) where
     -- the commands of a batch from a place on
     each_command : (place : ℕ) → place < lane.passed → (r : Running) → slice_get lane.batches place ≡ Some r →
         (cs : List VkCommand) (done : List Bool) (i : ℕ) (before : List VkCommand) → cs ≡ drop i r.batch.commands → done ≡ drop i r.done →
+        before ≡ earlier (take place lane.batches) i r →
         AllByRecursion (IsEnabled v) (batch_commands q r.batch.number (i + 1) before cs done)
-    each_command place passed r is [] done i before from marks = tt
-    each_command place passed r is (c ∷ cs) [] i before from marks = tt
-    each_command place passed r is (c ∷ cs) (true ∷ done) i before from marks =
+    each_command place passed r is [] done i before from marks held = tt
+    each_command place passed r is (c ∷ cs) [] i before from marks held = tt
+    each_command place passed r is (c ∷ cs) (true ∷ done) i before from marks held =
         each_command place passed r is cs done (i + 1) before (tail_at r.batch.commands i c cs from) (tail_at r.done i true done marks)
-    each_command place passed r is (c ∷ cs) (false ∷ done) i before from marks =
+        (held ∙ sym (earlier_done (take place lane.batches) r i c (head_at r.batch.commands i c cs from) (head_at r.done i true done marks)))
+    each_command place passed r is (c ∷ cs) (false ∷ done) i before from marks held =
         each_append (IsEnabled v) (ready_command q r.batch.number (i + 1) before c) (batch_commands q r.batch.number (i + 1 + 1) (before ++ c ∷ []) cs done)
-        (each_if (IsEnabled v) (can_run before c) (Ran q r.batch.number (i + 1)) (λ _.
+        (each_if (IsEnabled v) (can_run before c) (Ran q r.batch.number (i + 1)) (λ can.
         let same : i ≡ i + 1 - 1 = omega arith in
         record {
           lane = lane;
@@ -94,19 +98,24 @@ module _ (v : VkState) where
           command = c;
           is_command = subst (λ (j : ℕ). slice_get r.batch.commands j ≡ Some c) same (head_at r.batch.commands i c cs from);
           left = subst (λ (j : ℕ). slice_get r.done j ≡ Some false) same (head_at r.done i false done marks);
+          in_order = subst (λ (j : ℕ). IsInOrder lane place j c) same (in_order_of lane place r is i c (ap (λ (es : List VkCommand). can_run es c) (sym held) ∙ can));
         }))
-        (each_command place passed r is cs done (i + 1) (before ++ c ∷ []) (tail_at r.batch.commands i c cs from) (tail_at r.done i false done marks))
+        (each_command place passed r is cs done (i + 1) (before ++ c ∷ []) (tail_at r.batch.commands i c cs from) (tail_at r.done i false done marks)
+        (ap (λ (es : List VkCommand). es ++ c ∷ []) held ∙ sym (earlier_left (take place lane.batches) r i c (head_at r.batch.commands i c cs from) (head_at r.done i false done marks))))
 
     -- the commands of the batches that have passed, from a place on
-    each_batch : (rs : List Running) (place : ℕ) (before : List VkCommand) → rs ≡ drop place (take lane.passed lane.batches) → AllByRecursion (IsEnabled v) (lane_commands q before rs)
-    each_batch [] place before from = tt
-    each_batch (r ∷ rs) place before from =
+    each_batch : (rs : List Running) (place : ℕ) (before : List VkCommand) → rs ≡ drop place (take lane.passed lane.batches) → before ≡ all_undone (take place lane.batches) →
+        AllByRecursion (IsEnabled v) (lane_commands q before rs)
+    each_batch [] place before from held = tt
+    each_batch (r ∷ rs) place before from held =
         let is : slice_get (take lane.passed lane.batches) place ≡ Some r = head_at (take lane.passed lane.batches) place r rs from in
         let within : place < min lane.passed (length lane.batches) = rw (length-take lane.passed lane.batches) at (slice_get_within {A = Running} (take lane.passed lane.batches) place r is) in
         let passed : place < lane.passed = omega (arith, within) in
+        let in_lane : slice_get lane.batches place ≡ Some r = sym (get_of_take lane.passed lane.batches place passed) ∙ is in
         each_append (IsEnabled v) (batch_commands q r.batch.number 1 before r.batch.commands r.done) (lane_commands q (before ++ undone r) rs)
-        (each_command place passed r (sym (get_of_take lane.passed lane.batches place passed) ∙ is) r.batch.commands r.done 0 before refl refl)
-        (each_batch rs (place + 1) (before ++ undone r) (tail_at (take lane.passed lane.batches) place r rs from))
+        (each_command place passed r in_lane r.batch.commands r.done 0 before refl refl (held ∙ sym (append-nil (all_undone (take place lane.batches)))))
+        (each_batch rs (place + 1) (before ++ undone r) (tail_at (take lane.passed lane.batches) place r rs from)
+        (ap (λ (es : List VkCommand). es ++ undone r) held ∙ sym (earlier_batch lane.batches place r in_lane)))
 
   -- all steps that can be taken
   each_step : AllByRecursion (IsEnabled v) (enabled_steps v)
@@ -114,7 +123,7 @@ module _ (v : VkState) where
       each_append (IsEnabled v) (passes v.timelines 0 v.lanes) (commands 0 v.lanes ++ bumps 0 v.lanes)
       (each_lane (IsEnabled v) (ready_pass v.timelines) (passes v.timelines) (λ q. refl) (λ q l ls. refl) v.lanes (λ q l is. each_pass q l is (slice_get l.batches l.passed) refl) v.lanes 0 refl)
       (each_append (IsEnabled v) (commands 0 v.lanes) (bumps 0 v.lanes)
-      (each_lane (IsEnabled v) (λ q lane. lane_commands q [] (take lane.passed lane.batches)) commands (λ q. refl) (λ q l ls. refl) v.lanes (λ q l is. each_batch q l is (take l.passed l.batches) 0 [] refl) v.lanes 0 refl)
+      (each_lane (IsEnabled v) (λ q lane. lane_commands q [] (take lane.passed lane.batches)) commands (λ q. refl) (λ q l ls. refl) v.lanes (λ q l is. each_batch q l is (take l.passed l.batches) 0 [] refl refl) v.lanes 0 refl)
       (each_lane (IsEnabled v) ready_bump bumps (λ q. refl) (λ q l ls. refl) v.lanes (λ q l is. each_bump q l is (slice_get l.batches 0) refl) v.lanes 0 refl))
 
   -- a step that can be taken means what it says

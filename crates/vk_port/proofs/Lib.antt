@@ -6,7 +6,9 @@ pub mod Searching
 pub mod Walks
 pub mod Placing
 pub mod Setting
+pub mod Earlier
 pub mod Enabled
+pub mod Offered
 pub mod Changing
 pub mod Valid
 pub mod Falls

@@ -15,6 +15,10 @@ use Rattle.vk_port.specs.VkState.{VkState, first_state}
 abbrev pub EachMeans : Type 0
 EachMeans = (v : VkState) (k : ℕ) (s : Stepped) → slice_get (enabled_steps v) k ≡ Some s → IsEnabled v s
 
+-- each step that can be taken by its meaning has a place among those that are offered
+abbrev pub EachIsOffered : Type 0
+EachIsOffered = (v : VkState) (s : Stepped) → IsEnabled v s → (k : ℕ) × (slice_get (enabled_steps v) k ≡ Some s)
+
 -- each step that is taken leaves fewer steps
 abbrev pub EachFalls : Type 0
 EachFalls = (v : VkState) → IsValid v → (k : ℕ) (s : Stepped) → slice_get (enabled_steps v) k ≡ Some s → steps_left (after_step v s) < steps_left v

@@ -1,12 +1,18 @@
 //! Laws of the Vulkan machine. The functions do nothing.
 
-ghost use Rattle.vk_port.specs.Laws.{EachMeans, EachFalls, SubmissionsAdd, StaysValid, StaysMatched};
+ghost use Rattle.vk_port.specs.Laws.{EachMeans, EachIsOffered, EachFalls, SubmissionsAdd, StaysValid, StaysMatched};
 
 /// A step that can be taken means what it says: a pass is of a queue's next batch, whose waits are
-/// reached; a command is of a batch that has passed, and not done; a batch that ends is the first of its
-/// queue, has passed, and all its commands are done.
+/// reached; a command is of a batch that has passed, and not done, and each earlier command of its queue that
+/// has to be done before it is done; a batch that ends is the first of its queue, has passed, and all its
+/// commands are done.
 pub fn each_step_means_what_it_says()
     ensures { EachMeans }
+{}
+
+/// Each pass, command and end that may be done by that meaning is among the steps that can be taken.
+pub fn what_may_be_done_is_offered()
+    ensures { EachIsOffered }
 {}
 
 /// Each step that is taken leaves fewer steps.

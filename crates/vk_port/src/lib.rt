@@ -25,7 +25,7 @@ pub use faults::DeviceFault;
 pub use lanes::{Lane, Running};
 pub use laws::{
     a_submission_adds_its_steps, each_step_leaves_fewer, each_step_means_what_it_says,
-    states_keep_their_objects, states_stay_valid,
+    states_keep_their_objects, states_stay_valid, what_may_be_done_is_offered,
 };
 pub use plain::PlainDevice;
 pub use sets::{NoSets, Sets};
