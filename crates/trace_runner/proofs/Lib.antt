@@ -1,6 +1,9 @@
 pub mod Moments
 pub mod Rounds
 pub mod OfRounds
+pub mod ShortLines
+pub mod SoundRounds
+pub mod TextsOfRounds
 pub mod Going
 pub mod Concluding
 pub mod Wording

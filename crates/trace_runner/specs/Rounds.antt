@@ -1,5 +1,6 @@
 -- Worlds of rounds: in each round four words are written, copied and read, and the host waits for the copy before it reads.
-use Rattle.std.specs.Prelude.{ℕ, ◌≡◌, ◌<◌, List, [], ◌∷◌, length, flat_map, codes, Some}
+use Rattle.std.specs.Prelude.{ℕ, ◌≡◌, ◌<◌, ◌^◌, List, [], ◌∷◌, length, flat_map, codes, Some}
+use Rattle.std.specs.List.{All}
 use Rattle.dx_base.specs.declared.kinds.Home.TheVariants as home
 use Rattle.dx_base.specs.declared.kinds.ListType.TheVariants.{Direct}
 use Rattle.d3d_machine.specs.declared.calls.Call.{Call}
@@ -64,6 +65,33 @@ names_of_rounds = codes "q" ∷ codes "f" ∷ codes "u" ∷ codes "b" ∷ codes 
 abbrev pub value_of_rounds : List Round → Value
 value_of_rounds rounds = record { names = names_of_rounds; declared = objects_of_rounds; scripts = flat_map calls_of rounds ∷ [] }
 
+-- the round of the first example: it writes the words 1 to 4, and signals 1
+abbrev pub first_round : Round
+first_round = record { words = 1 ∷ 2 ∷ 3 ∷ 4 ∷ []; value = 1 }
+
+-- the lines of a trace with that round alone: the first example, but that its data words have eight digits
+abbrev pub first_lines : List (List ℕ)
+first_lines =
+    codes "d3dtrace 1"
+    ∷ codes "queue q direct"
+    ∷ codes "fence f 0"
+    ∷ codes "buffer u upload 16"
+    ∷ codes "buffer b readback 16"
+    ∷ codes "allocator a direct"
+    ∷ codes "list l direct"
+    ∷ codes "list m direct"
+    ∷ codes "thread t"
+    ∷ codes "write u 0 00000001 00000002 00000003 00000004"
+    ∷ codes "reset l a"
+    ∷ codes "copy l b 0 u 0 16"
+    ∷ codes "close l"
+    ∷ codes "execute q l"
+    ∷ codes "signal q f 1"
+    ∷ codes "hostwait f 1"
+    ∷ codes "read b 0 16"
+    ∷ codes "end"
+    ∷ []
+
 -- a round has a value above that of the round before, and four words
 pub record IsRoundAbove (v : ℕ) (r : Round) : Type 0 where
   pub above : v < r.value
@@ -73,6 +101,15 @@ pub record IsRoundAbove (v : ℕ) (r : Round) : Type 0 where
 abbrev pub AreRising : ℕ → List Round → Type 0
 AreRising v [] = Unit {0}
 AreRising v (r ∷ rs) = IsRoundAbove v r × AreRising r.value rs
+
+-- a round's words are of 32 bits, and its value is of 64
+pub record IsSmall (r : Round) : Type 0 where
+  pub words : All (λ n. n < 2 ^ 32) r.words
+  pub value : r.value < 2 ^ 64
+
+-- each round is small
+abbrev pub AreSmall : List Round → Type 0
+AreSmall rounds = All (λ r. IsSmall r) rounds
 
 -- a world is that of rounds, whose values rise from 0
 pub record IsOfRounds (w : World) : Type 0 where

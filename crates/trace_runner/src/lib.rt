@@ -9,6 +9,9 @@ mod steps;
 mod tests;
 mod words;
 
-pub use laws::{runs_of_rounds_are_calm, runs_of_rounds_go_on, traces_of_rounds_have_their_worlds};
+pub use laws::{
+    runs_of_rounds_are_calm, runs_of_rounds_go_on, texts_of_rounds_are_read,
+    traces_of_rounds_have_their_worlds,
+};
 pub use runner::simulate;
 pub use words::{Words, read_words};

@@ -1,6 +1,7 @@
 //! Whole runs: the words, the bytes of a trace and the choices in; the bytes of the output and a report out.
 
 mod faults;
+mod rounds;
 mod rows;
 mod runs;
 

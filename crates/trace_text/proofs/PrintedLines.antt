@@ -119,7 +119,7 @@ plain_line word (next ∷ ws) one all =
     ∙ and_from (list_all is_plain_byte word) (list_all is_plain_byte (line_of (next ∷ ws))) one.plain (plain_line next ws all.0 all.1)
 
 -- the length of a line that ends with data words
-data_long : (word : List ℕ) (ns : List ℕ) → length (line_of (word ∷ map hex_word ns)) ≡ length word + 9 * length ns
+pub data_long : (word : List ℕ) (ns : List ℕ) → length (line_of (word ∷ map hex_word ns)) ≡ length word + 9 * length ns
 unfolding hex_word
 data_long word [] = omega arith
 data_long word (n ∷ ns) =
