@@ -137,14 +137,8 @@ fn read_all(buffer: ResourceId) -> Call {
     }
 }
 
-/// The calls that write four words, copy them, signal the fence with 1, and read them back.
-fn round(alloc: Global) -> Result<Seq<Call>, Memory> {
-    let mut calls = Seq::new(alloc);
-    calls.push(Call::Write {
-        buffer: UPLOAD,
-        offset: 0,
-        words: Seq::from_slice(alloc, &[1, 2, 3, 4])?,
-    })?;
+/// Appends the calls that record a copy of four words.
+fn push_recording(calls: &mut Seq<Call>) -> Result<(), Memory> {
     calls.push(Call::Reset {
         list: LIST,
         allocator: AllocatorId(0),
@@ -159,7 +153,18 @@ fn round(alloc: Global) -> Result<Seq<Call>, Memory> {
             bytes: 16,
         },
     })?;
-    calls.push(Call::Close { list: LIST })?;
+    calls.push(Call::Close { list: LIST })
+}
+
+/// The calls that write four words, copy them, signal the fence with 1, and read them back.
+fn round(alloc: Global) -> Result<Seq<Call>, Memory> {
+    let mut calls = Seq::new(alloc);
+    calls.push(Call::Write {
+        buffer: UPLOAD,
+        offset: 0,
+        words: Seq::from_slice(alloc, &[1, 2, 3, 4])?,
+    })?;
+    push_recording(&mut calls)?;
     calls.push(Call::Execute {
         queue: QUEUE,
         lists: Seq::from_slice(alloc, &[LIST])?,
