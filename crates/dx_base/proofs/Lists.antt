@@ -1,5 +1,5 @@
 -- A list with the item at a place changed: by writing there, its length, and its items.
-use Rattle.std.proofs.Common.{ℕ, zero, suc, ◌≡◌, ◌≢◌, ◌<◌, ◌≤◌, ◌+◌, ◌∙◌, refl, sym, ap, List, [], ◌∷◌, ◌++◌, length, get_or, slice_set, slice_get, Option, Some, None, option_map, map, take, add-one, arith}
+use Rattle.std.proofs.Common.{ℕ, zero, suc, ◌≡◌, ◌≢◌, ◌<◌, ◌≤◌, ◌+◌, ◌∙◌, refl, ap, List, [], ◌∷◌, ◌++◌, length, get_or, slice_set, slice_get, Some, option_map, map, take, add-one, arith}
 use Rattle.std.proofs.lemmas.List.{length-take, length-append, length-drop}
 use Rattle.std.proofs.Common.{drop, Bool, true, false}
 use Rattle.std.specs.List.{list_all}
