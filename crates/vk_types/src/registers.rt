@@ -19,4 +19,6 @@ pub enum Register {
 #[derive(Clone, Copy, Debug, PartialEq, Eq)]
 pub enum Count {
     Number(u32),
+    /// The word of a buffer when the command is done, but no more than `most` (vkCmdDispatchIndirect).
+    Word { buffer: u32, word: u32, most: u32 },
 }
