@@ -1,0 +1,5 @@
+pub mod Counting
+pub mod Commuting
+pub mod Reading
+pub mod Writing
+pub mod Acting

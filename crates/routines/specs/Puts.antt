@@ -1,6 +1,7 @@
 -- What a routine puts into the words of its destination, by the numbers that it reads: the table of what the routines do. All
 -- reads are of the numbers before the command, but for the growing of a histogram, which builds on its own.
-use Rattle.std.specs.Prelude.{ℕ, zero, suc, ◌+◌, ◌*◌, ◌/◌, ◌%◌, ◌^◌, ◌==◌, nat_lt, sum, List, [], ◌∷◌, ◌++◌, slice_index_or, if◌then◌else◌}
+use Rattle.std.specs.Prelude.{ℕ, zero, suc, ◌+◌, ◌*◌, ◌/◌, ◌%◌, ◌^◌, ◌==◌, ◌<◌, nat_lt, sum, List, [], ◌∷◌, ◌++◌, slice_index_or, if◌then◌else◌}
+use Rattle.dx_base.specs.Each.{Each}
 use Rattle.dx_base.specs.Lists.{range_of}
 use Rattle.dx_base.specs.declared.kinds.Routine.{Routine}
 use Rattle.dx_base.specs.declared.kinds.Routine.TheVariants.{Fill, Move, Add, Mul, Gather, Scatter, Sums, Histogram}
@@ -68,3 +69,7 @@ writers Histogram n = n
 -- what a routine with n invocations puts into a destination of m words
 abbrev pub puts_of : Routine → ℕ → ℕ → Numbers → List Put
 puts_of routine n m x = puts_before routine m x (writers routine n)
+
+-- what is put lies inside a destination of m words
+abbrev pub PutsLieIn : ℕ → List Put → Type 0
+PutsLieIn m puts = Each (λ (p : Put). p.word < m) puts

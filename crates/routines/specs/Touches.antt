@@ -56,6 +56,13 @@ abbrev pub ends_below : Option View → Bool
 ends_below None = true
 ends_below (Some view) = nat_lt (view.first + view.words) (2 ^ 32)
 
--- the views of all registers do, which is a condition of calls
-abbrev pub AreViews : Bound → Type 0
-AreViews bound = IsTrue (ends_below bound.t0 && (ends_below bound.t1 && (ends_below bound.u0 && ends_below (view_of bound.b0))))
+-- the same as a condition of calls
+abbrev pub EndsBelow : Option View → Type 0
+EndsBelow bound = IsTrue (ends_below bound)
+
+-- the words of the views of all registers do
+pub record AreViews (bound : Bound) : Type 0 where
+  pub t0 : EndsBelow bound.t0
+  pub t1 : EndsBelow bound.t1
+  pub u0 : EndsBelow bound.u0
+  pub b0 : EndsBelow (view_of bound.b0)

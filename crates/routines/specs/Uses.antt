@@ -25,6 +25,6 @@ words_used Invocations n has = min n has
 words_used Groups n has = min ((n + 63) / 64) has
 words_used Whole n has = if n == 0 then 0 else has
 
--- what a routine reads of u0
-abbrev pub read_of_u0 : Routine → Extent
-read_of_u0 routine = if (uses_of routine).updates then (uses_of routine).u0 else Nothing
+-- what is read of u0
+abbrev pub read_of_u0 : Uses → Extent
+read_of_u0 uses = if uses.updates then uses.u0 else Nothing

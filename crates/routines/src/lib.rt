@@ -3,17 +3,24 @@
 #![tactic(auto)]
 
 mod bounds;
+mod counts;
+mod laws;
 mod memory;
 mod numbers;
 mod puts;
 mod stores;
+#[cfg(test)]
+mod tests;
 mod touches;
 mod uses;
 
 pub use bounds::{Bound, Source0};
+pub use laws::{
+    actions_that_are_apart_commute, routines_are_actions, stores_are_writes, stores_go_by_reads,
+};
 pub use memory::WordsOf;
 pub use numbers::Numbers;
-pub use puts::Put;
-pub use stores::Store;
-pub use touches::Touch;
+pub use puts::{Put, puts_by};
+pub use stores::{Store, effect};
+pub use touches::{Touch, accesses};
 pub use uses::{Extent, Uses};
