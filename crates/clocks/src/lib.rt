@@ -1,0 +1,10 @@
+//! Clocks: which operations of queues and which calls of threads are known to have come before.
+#![tactic(auto)]
+
+mod clock;
+pub mod laws;
+mod numbers;
+#[cfg(test)]
+mod tests;
+
+pub use clock::Clock;
