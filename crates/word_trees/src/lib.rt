@@ -1,0 +1,9 @@
+//! Numbers of words that only grow, with the greatest of a range at hand.
+#![tactic(auto)]
+
+mod nodes;
+mod table;
+#[cfg(test)]
+mod tests;
+
+pub use table::Table;
