@@ -10,6 +10,7 @@ use crate::touches::{Touch, accesses};
 use dx_base::{Class, Memory, ResourceId, Routine, Seq, View};
 use dx_flags::Access;
 use std::alloc::Global;
+use std::process::Abort;
 use std::test::Fail;
 
 /// The words of one resource.
@@ -143,8 +144,9 @@ fn counts(rt: &impl Abort, alloc: Global) -> Result<(), Memory> {
     for (routine, rows) in COUNTS {
         for (n, row) in [0, 1, 3, 4].iter().zip(rows.iter()) {
             let after = ran(alloc, &APART, routine, &bound, *n)?;
-            assert!(rt; after.as_slice()[..6] == APART[..6]);
-            assert!(rt; after.as_slice()[6..] == *row, "{routine:?} {n}");
+            let (kept, written) = after.as_slice().split_at(after.len().min(6));
+            assert!(rt; kept == &APART[..6]);
+            assert!(rt; written == row.as_slice(), "{routine:?} {n}");
         }
     }
     Ok(())
@@ -325,7 +327,10 @@ fn rows(rt: &impl Abort, alloc: Global) -> Result<(), Memory> {
             &bound(t0, t1, u0, Constant::Word(c)),
             n,
         )?;
-        assert!(rt; found.as_slice() == after, "{routine:?} {n} {before:?}");
+        assert!(rt;
+            found.as_slice() == after.as_slice(),
+            "{routine:?} {n} {before:?}"
+        );
     }
     Ok(())
 }
@@ -346,7 +351,7 @@ fn groups(rt: &impl Abort, alloc: Global) -> Result<(), Memory> {
         let views = bound(Some((0, ones)), None, Some((ones, 2)), Constant::Unbound);
         let found = ran(alloc, before.as_slice(), Routine::Sums, &views, n)?;
         let (_, after) = found.as_slice().split_at((ones as usize).min(found.len()));
-        assert!(rt; after == sums, "{ones} {n}");
+        assert!(rt; after == sums.as_slice(), "{ones} {n}");
     }
     Ok(())
 }
