@@ -1,26 +1,47 @@
-# What to do with the repository. It needs the Rattle toolchain, whose command is `rt`.
+# What to do with the repository: `make help` lists the targets. All others need the Rattle toolchain, whose command is
+# `rt`.
 
 PROGRAM := crates/d3dsim/out/d3dsim
-EXAMPLE := examples/01-one-copy
 
-.PHONY: demo test bench
+.PHONY: help demo prove test profile bench toolchain
 
-# Builds d3dsim, which proves it first, and runs the first example.
-demo: $(PROGRAM)
-	@echo "--- $(EXAMPLE)/trace"
-	@cat $(EXAMPLE)/trace
-	@echo "--- d3dsim < $(EXAMPLE)/trace"
-	@$(PROGRAM) < $(EXAMPLE)/trace
+help:
+	@echo "make demo      run the first example, on a quick build without proofs; under a minute"
+	@echo "make prove     prove the crates and build $(PROGRAM); a quarter of an hour and more"
+	@echo "make test      the whole gate: every proof, edit, test, program, example and document; an hour and more"
+	@echo "make profile   the gate from nothing, with its processor minutes by crate; an hour and more"
+	@echo "make bench     how time grows with the trace, on the proved program"
+	@echo "make help      these lines"
+
+# Runs the first example: on the proved program where it is there and up to date, else on a build without proofs.
+demo: toolchain
+	@if $(MAKE) -q $(PROGRAM) >/dev/null 2>&1; then tools/demo proved; else tools/demo; fi
+
+# Proves d3dsim and all crates below it, and builds it.
+prove: toolchain $(PROGRAM)
+	@echo "$(PROGRAM) is proved and built: try tools/d3d run examples/01-one-copy/trace"
 
 # Runs the whole gate.
-test:
+test: toolchain
 	.ci/run
 
+# Says what the gate costs from nothing.
+profile: toolchain
+	tools/profile
+
 # Measures; time is no part of the gate.
-bench: $(PROGRAM)
+bench: toolchain $(PROGRAM)
 	bench/run
 
+# Says what is missing where there is no `rt`.
+toolchain:
+	@command -v rt >/dev/null || { \
+	    echo "There is no command rt. It is the Rattle toolchain, which proves and builds this repository:" \
+	        "unpack the toolchain, and put its folder bin on your PATH." >&2; \
+	    exit 1; \
+	}
+
 # Only a proved program is built: `rt run` proves each crate below it, lowest first.
-$(PROGRAM): $(shell find crates -path '*/out' -prune -o -type f \( -name '*.rt' -o -name '*.antt' \) -print 2>/dev/null) crates.txt
+$(PROGRAM): $(shell find crates -path '*/out' -prune -o -type f \( -name '*.rt' -o -name '*.antt' \) -print 2>/dev/null) crates.txt | toolchain
 	cd crates/d3dsim && rt run < stdin > /dev/null
 	@test -x $@ && touch $@
