@@ -1,9 +1,9 @@
-# What to do with the repository: `make help` lists the targets. All others need the Rattle toolchain, whose command is
-# `rt`.
+# What to do with the repository: `make help` lists the targets. All but it and `docs` need the Rattle toolchain,
+# whose command is `rt`.
 
 PROGRAM := crates/d3dsim/out/d3dsim
 
-.PHONY: help demo prove test profile bench toolchain
+.PHONY: help demo prove test profile bench docs toolchain
 
 help:
 	@echo "make demo      run the first example, on a quick build without proofs; under a minute"
@@ -11,6 +11,7 @@ help:
 	@echo "make test      the whole gate: every proof, edit, test, program, example and document; an hour and more"
 	@echo "make profile   the gate from nothing, with its processor minutes by crate; an hour and more"
 	@echo "make bench     how time grows with the trace, on the proved program"
+	@echo "make docs      write again what of the documents is made from the crates"
 	@echo "make help      these lines"
 
 # Runs the first example: on the proved program where it is there and up to date, else on a build without proofs.
@@ -32,6 +33,10 @@ profile: toolchain
 # Measures; time is no part of the gate.
 bench: toolchain $(PROGRAM)
 	bench/run
+
+# Writes docs/DEFINITIONS.md and the ledger of docs/TESTING.md.
+docs:
+	tools/write-docs
 
 # Says what is missing where there is no `rt`.
 toolchain:

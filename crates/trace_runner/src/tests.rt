@@ -59,19 +59,19 @@ fn joined(alloc: Global, texts: [&str; 2]) -> Result<Vec<u8>, Memory> {
     Ok(bytes)
 }
 
-/// The report of a run, and what it wrote.
+/// The report of a run, and what it wrote. The device is made last: nothing leaves while it is owned here.
 fn report_of(alloc: Global, given: Given) -> Result<(Report<PlainDevice>, BytesSink), Fail> {
     let [of_source, of_sink, of_device] = given.fails;
     let mut source = BytesSource::new(joined(alloc, given.texts)?, [of_source].to_vec(alloc)?);
     let mut sink = BytesSink::new(alloc, given.room, [of_sink].to_vec(alloc)?)?;
-    let device = PlainDevice::new(alloc, [of_device].to_vec(alloc)?);
     let mut choices = ListChooser::new(alloc, given.choices.to_vec(alloc)?);
+    let fails = [of_device].to_vec(alloc)?;
     let report = simulate(
         alloc,
         given.words,
         &mut source,
         &mut sink,
-        device,
+        PlainDevice::new(alloc, fails),
         &mut choices,
     );
     Ok((report, sink))
@@ -80,5 +80,7 @@ fn report_of(alloc: Global, given: Given) -> Result<(Report<PlainDevice>, BytesS
 /// The status of a run, and what it wrote.
 fn run_of(alloc: Global, given: Given) -> Result<(Status, BytesSink), Fail> {
     let (report, sink) = report_of(alloc, given)?;
-    Ok((report.status, sink))
+    let status = report.status;
+    drop(report);
+    Ok((status, sink))
 }

@@ -1,7 +1,8 @@
 //! Runs written by hand.
 
-ghost use Rattle.std.specs.Prelude.{◌≡◌, [], map, length, IfOk, IsSome, IfSome};
+ghost use Rattle.std.specs.Prelude.{◌≡◌, [], map, length, None, IfOk, IsSome, IfSome};
 ghost use Rattle.vk_port.specs.Examples.{two_buffers, one_copy};
+ghost use Rattle.vk_port.specs.Seen.{no_state};
 
 use crate::device::VkDevice;
 use crate::faults::DeviceFault;
@@ -10,6 +11,7 @@ use crate::sets::NoSets;
 use crate::steps::Stepped;
 use dx_base::{Home, Memory, Seq};
 use std::alloc::Global;
+use std::process::Abort;
 use std::test::Fail;
 use vk_types::{Accesses, Batch, DevicePlan, PlanBuffer, Stages, VkCommand};
 
@@ -104,26 +106,133 @@ fn run<D: VkDevice>(
     Ok(taken)
 }
 
+/// The words that the host writes into buffer 0.
+const WRITTEN: [u32; 4] = [11, 12, 13, 14];
+
+/// What the steps of one copy answer, which are taken at place 0 each.
+const STEPS_OF_ONE: [Stepped; 5] = [
+    Stepped::Passed(0, 0),
+    Stepped::Ran(0, 0, 1),
+    Stepped::Ran(0, 0, 2),
+    Stepped::Ran(0, 0, 3),
+    Stepped::Bumped(0, 0),
+];
+
+/// What the steps of two copies on two queues answer, which are taken at the places `PLACES_OF_TWO`.
+const STEPS_OF_TWO: [Stepped; 7] = [
+    Stepped::Passed(1, 1),
+    Stepped::Ran(1, 1, 1),
+    Stepped::Passed(0, 0),
+    Stepped::Ran(1, 1, 2),
+    Stepped::Ran(0, 0, 1),
+    Stepped::Ran(1, 1, 3),
+    Stepped::Bumped(1, 1),
+];
+
+/// The places of these steps.
+const PLACES_OF_TWO: [usize; 7] = [1, 1, 0, 1, 0, 1, 1];
+
+/// Takes the steps of these places, and compares what they answer.
+fn takes<D: VkDevice>(
+    rt: &impl Abort,
+    alloc: Global,
+    device: &mut D,
+    places: &[usize],
+    steps: &[Stepped],
+) -> Result<(), DeviceFault>
+    requires plan { IsSome (D.plan_of device.old) }
+    requires heaps { IfSome (D.plan_of device.old) (λ plan. plan.heaps ≡ []) }
+    ensures plan { D.plan_of device.new ≡ D.plan_of device.old }
+    ensures sizes { map length (D.state device.new).words ≡ map length (D.state device.old).words }
+{
+    let taken = run(alloc, device, places)?;
+    assert_eq!(rt; taken.as_slice(), steps);
+    Ok(())
+}
+
+/// Submits one copy to a new device, and takes its steps.
+fn one_copy_runs(
+    rt: &impl Abort,
+    alloc: Global,
+    device: &mut PlainDevice,
+    plan: &DevicePlan,
+) -> Result<(), DeviceFault>
+    requires new { ⟦<PlainDevice as VkDevice>⟧.plan_of device.old ≡ None }
+    requires empty { ⟦<PlainDevice as VkDevice>⟧.state device.old ≡ no_state }
+    requires plan { plan.now ≡ two_buffers 1 }
+{
+    device.create(plan)?;
+    device.host_write(0, 0, WRITTEN.as_slice())?;
+    let batch = copy_of(alloc, 0, 0, 1)?;
+    device.submit(batch)?;
+    takes(
+        rt,
+        alloc,
+        device,
+        [0, 0, 0, 0, 0].as_slice(),
+        STEPS_OF_ONE.as_slice(),
+    )?;
+    let words = device.host_read(1, 0, 4)?;
+    assert_eq!(rt; words.as_slice(), [0, 12, 13, 0].as_slice());
+    Ok(())
+}
+
+/// Submits two copies to two queues of a new device, and takes steps of both.
+fn two_copies_overlap(
+    rt: &impl Abort,
+    alloc: Global,
+    device: &mut PlainDevice,
+    plan: &DevicePlan,
+) -> Result<(), DeviceFault>
+    requires new { ⟦<PlainDevice as VkDevice>⟧.plan_of device.old ≡ None }
+    requires empty { ⟦<PlainDevice as VkDevice>⟧.state device.old ≡ no_state }
+    requires plan { plan.now ≡ two_buffers 2 }
+{
+    device.create(plan)?;
+    device.host_write(0, 0, WRITTEN.as_slice())?;
+    let one = copy_of(alloc, 0, 0, 0)?;
+    device.submit(one)?;
+    let other = copy_of(alloc, 1, 1, 2)?;
+    device.submit(other)?;
+    takes(
+        rt,
+        alloc,
+        device,
+        PLACES_OF_TWO.as_slice(),
+        STEPS_OF_TWO.as_slice(),
+    )?;
+    let words = device.host_read(1, 0, 4)?;
+    assert_eq!(rt; words.as_slice(), [0, 0, 13, 14].as_slice());
+    Ok(())
+}
+
+/// The run of one copy on a device of its own.
+fn one_copy_on(rt: &impl Abort, alloc: Global, plan: &DevicePlan) -> Result<(), DeviceFault>
+    requires { plan.now ≡ two_buffers 1 }
+{
+    let mut device = PlainDevice::new(alloc, Vec::new(alloc));
+    let ran = one_copy_runs(rt, alloc, &mut device, plan);
+    drop(device);
+    ran
+}
+
+/// The run of two copies on a device of its own.
+fn two_copies_on(rt: &impl Abort, alloc: Global, plan: &DevicePlan) -> Result<(), DeviceFault>
+    requires { plan.now ≡ two_buffers 2 }
+{
+    let mut device = PlainDevice::new(alloc, Vec::new(alloc));
+    let ran = two_copies_overlap(rt, alloc, &mut device, plan);
+    drop(device);
+    ran
+}
+
 #[test]
 fn a_copy_runs_between_its_barriers(rt: HostRuntime) -> Result<(), Fail> {
     let alloc = rt.alloc();
     let plan = plan_of(alloc, 1)?;
-    let batch = copy_of(alloc, 0, 0, 1)?;
-    let mut device = PlainDevice::new(alloc, Vec::new(alloc));
-    device.create(&plan)?;
-    device.host_write(0, 0, [11, 12, 13, 14].as_slice())?;
-    device.submit(batch)?;
-    let taken = run(alloc, &mut device, [0, 0, 0, 0, 0].as_slice())?;
-    let steps = [
-        Stepped::Passed(0, 0),
-        Stepped::Ran(0, 0, 1),
-        Stepped::Ran(0, 0, 2),
-        Stepped::Ran(0, 0, 3),
-        Stepped::Bumped(0, 0),
-    ];
-    assert_eq!(rt; taken.as_slice(), steps.as_slice());
-    let words = device.host_read(1, 0, 4)?;
-    assert_eq!(rt; words.as_slice(), [0, 12, 13, 0].as_slice());
+    let ran = one_copy_on(&rt, alloc, &plan);
+    drop(plan);
+    ran?;
     Ok(())
 }
 
@@ -131,53 +240,58 @@ fn a_copy_runs_between_its_barriers(rt: HostRuntime) -> Result<(), Fail> {
 fn batches_of_two_queues_overlap(rt: HostRuntime) -> Result<(), Fail> {
     let alloc = rt.alloc();
     let plan = plan_of(alloc, 2)?;
-    let one = copy_of(alloc, 0, 0, 0)?;
-    let other = copy_of(alloc, 1, 1, 2)?;
-    let mut device = PlainDevice::new(alloc, Vec::new(alloc));
-    device.create(&plan)?;
-    device.host_write(0, 0, [11, 12, 13, 14].as_slice())?;
-    device.submit(one)?;
-    device.submit(other)?;
-    let taken = run(alloc, &mut device, [1, 1, 0, 1, 0, 1, 1].as_slice())?;
-    let steps = [
-        Stepped::Passed(1, 1),
-        Stepped::Ran(1, 1, 1),
-        Stepped::Passed(0, 0),
-        Stepped::Ran(1, 1, 2),
-        Stepped::Ran(0, 0, 1),
-        Stepped::Ran(1, 1, 3),
-        Stepped::Bumped(1, 1),
-    ];
-    assert_eq!(rt; taken.as_slice(), steps.as_slice());
-    let words = device.host_read(1, 0, 4)?;
-    assert_eq!(rt; words.as_slice(), [0, 0, 13, 14].as_slice());
+    let ran = two_copies_on(&rt, alloc, &plan);
+    drop(plan);
+    ran?;
     Ok(())
 }
 
-/// The number of the first call that answers `Lost`, of five calls; 0, where none does.
-fn lost_call(alloc: Global, fail: u64) -> Result<u64, DeviceFault> {
-    let plan = plan_of(alloc, 1)?;
-    let batch = copy_of(alloc, 0, 0, 0)?;
-    let mut device = PlainDevice::new(
-        alloc,
-        vec![in alloc; fail].map_err(|_| DeviceFault::Memory)?,
-    );
-    if let Err(_) = device.create(&plan) {
+/// The number of the first of five calls on a new device that answers `Lost`; 0, where none does.
+fn first_lost(
+    alloc: Global,
+    device: &mut PlainDevice,
+    plan: &DevicePlan,
+) -> Result<u64, DeviceFault>
+    requires new { ⟦<PlainDevice as VkDevice>⟧.plan_of device.old ≡ None }
+    requires empty { ⟦<PlainDevice as VkDevice>⟧.state device.old ≡ no_state }
+    requires plan { plan.now ≡ two_buffers 1 }
+{
+    if device.create(plan).is_err() {
         return Ok(1);
     }
-    if let Err(_) = device.host_write(0, 0, [1].as_slice()) {
+    if device.host_write(0, 0, [1].as_slice()).is_err() {
         return Ok(2);
     }
-    if let Err(_) = device.submit(batch) {
+    let batch = copy_of(alloc, 0, 0, 0)?;
+    if device.submit(batch).is_err() {
         return Ok(3);
     }
-    if let Err(_) = take(&mut device, 0) {
+    if take(device, 0).is_err() {
         return Ok(4);
     }
-    if let Err(_) = device.host_read(1, 0, 4) {
+    if device.host_read(1, 0, 4).is_err() {
         return Ok(5);
     }
     Ok(0)
+}
+
+/// That number on a device that loses one call.
+fn lost_on(alloc: Global, fails: Vec<u64>, plan: &DevicePlan) -> Result<u64, DeviceFault>
+    requires { plan.now ≡ two_buffers 1 }
+{
+    let mut device = PlainDevice::new(alloc, fails);
+    let lost = first_lost(alloc, &mut device, plan);
+    drop(device);
+    lost
+}
+
+/// The number of the first call that answers `Lost`, of five calls of a device that loses one; 0, where none does.
+fn lost_call(alloc: Global, fail: u64) -> Result<u64, DeviceFault> {
+    let fails = vec![in alloc; fail].map_err(|_| DeviceFault::Memory)?;
+    let plan = plan_of(alloc, 1)?;
+    let lost = lost_on(alloc, fails, &plan);
+    drop(plan);
+    lost
 }
 
 #[test]

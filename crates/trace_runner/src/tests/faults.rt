@@ -28,16 +28,18 @@ fn each_call_of_the_device_may_lose_it(rt: HostRuntime) -> Result<(), Fail> {
     Ok(())
 }
 
+/// The calls of the source, of the sink and of the device that fail, with the status and the output of the round.
+const FAULTS: [([u64; 3], Status, &str); 5] = [
+    ([1, 0, 0], Status::ReadFault, "read fault\n"),
+    ([2, 0, 0], Status::ReadFault, "read fault\n"),
+    ([3, 0, 0], Status::Done, ITS_OUTPUT),
+    ([0, 1, 0], Status::WriteFault, ""),
+    ([0, 2, 0], Status::Done, ITS_OUTPUT),
+];
+
 #[test]
 fn a_fault_ends_a_run_as_its_row_says(rt: HostRuntime) -> Result<(), Fail> {
-    let rows = [
-        ([1, 0, 0], Status::ReadFault, "read fault\n"),
-        ([2, 0, 0], Status::ReadFault, "read fault\n"),
-        ([3, 0, 0], Status::Done, ITS_OUTPUT),
-        ([0, 1, 0], Status::WriteFault, ""),
-        ([0, 2, 0], Status::Done, ITS_OUTPUT),
-    ];
-    for (fails, status, output) in rows {
+    for (fails, status, output) in FAULTS {
         let (got, sink) = run_of(rt.alloc(), failing(fails))?;
         assert!(rt; got == status, "the status of {output}");
         assert!(rt; sink.held() == output.as_bytes(), "not {output}");
@@ -71,5 +73,6 @@ fn what_was_answered_is_printed_before_a_lost_device(rt: HostRuntime) -> Result<
     assert!(rt; report.taken.len() == 2);
     assert!(rt; report.choices.len() == 3);
     assert!(rt; report.history.len() == 2);
+    drop(report);
     Ok(())
 }

@@ -44,6 +44,7 @@ fn a_report_has_a_choice_for_each_step_and_all_events(rt: HostRuntime) -> Result
     assert!(rt; report.status == Status::Done);
     assert!(rt; report.choices.len() == report.taken.len());
     assert!(rt; report.history.len() == 11);
+    drop(report);
     Ok(())
 }
 
