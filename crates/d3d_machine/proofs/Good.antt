@@ -2,12 +2,11 @@
 use Rattle.std.proofs.Common.{ℕ, zero, suc, ◌≡◌, ◌∙◌, ap, refl, List, [], ◌∷◌, length, map, Some, None, Option, Bool, true, false}
 use Rattle.std.specs.List.{list_all}
 use Rattle.std.specs.Prelude.{◌==◌, not, nat_le, if◌then◌else◌}
+use Rattle.dx_base.specs.Effects.{At, changed_by}
 use Rattle.dx_base.specs.declared.hresult.Hresult.{Hresult}
 use Rattle.dx_base.specs.declared.hresult.Hresult.TheVariants.{InvalidArg, Fail}
 use Rattle.dx_base.proofs.Lists.{and_both, and_of, all_changed, all_append}
 use Rattle.d3d_machine.specs.declared.world.World.{World}
-use Rattle.d3d_machine.specs.declared.calls.Call.{Call}
-use Rattle.d3d_machine.specs.declared.calls.Call.TheVariants as call
 use Rattle.d3d_machine.specs.declared.calls.Record.{Record}
 use Rattle.d3d_machine.specs.declared.calls.Record.TheVariants.{Copy}
 use Rattle.d3d_machine.specs.declared.events.Listed.{Listed}
@@ -15,10 +14,11 @@ use Rattle.d3d_machine.specs.declared.events.Operation.{Operation}
 use Rattle.d3d_machine.specs.declared.events.Operation.TheVariants as operation
 use Rattle.d3d_machine.specs.declared.events.Event.{Event}
 use Rattle.d3d_machine.specs.declared.events.Event.TheVariants as event
-use Rattle.d3d_machine.specs.State.{Desk, State, first_state, list_of, declared_list, is_recording}
-use Rattle.d3d_machine.specs.Replies.{refusal, refuse_if, argument_error, record_error, is_copy}
-use Rattle.d3d_machine.specs.Effects.{recorded, recorded_or, kept_or, closed, failed, begun, gathered, effect, after_refused, failed_if, desk_or, dropped, head_of, desk_after, after}
-use Rattle.d3d_machine.specs.Operations.{operation_of, unless_refused, called_by, operations_from, operations}
+use Rattle.d3d_machine.specs.State.{Desk, State, first_state, list_of, declared_list}
+use Rattle.d3d_machine.specs.CallEffects.{here_of, Change, records, closes, fails, begins, Task, executes, signals}
+use Rattle.d3d_machine.specs.Replies.{refuse_if, argument_error, record_error, is_copy}
+use Rattle.d3d_machine.specs.Effects.{changed, recorded, recorded_or, kept_or, gathered, operation_of, operation_given, done, dropped, head_of, desk_after, after}
+use Rattle.d3d_machine.specs.Operations.{called_by, operations_from, operations}
 use Rattle.d3d_machine.specs.Good.{is_good_record, is_good_command, is_good_list, is_good_operation}
 use Rattle.d3d_machine.proofs.Short.{operation_lists}
 
@@ -49,40 +49,18 @@ recorded_good w what x good = by_kept x.error
 abbrev AreGood : World → List Listed → Type 0
 AreGood w lists = list_all (is_good_list w) lists ≡ true
 
-effect_good : (w : World) (d : Desk) (t : ℕ) (c : Call) → AreGood w d.lists → AreGood w (effect w d t c).lists
-effect_good w d t (call.Recording l what) good = all_changed (is_good_list w) (recorded w what) l.0 d.lists good (recorded_good w what)
-effect_good w d t (call.Close l) good = all_changed (is_good_list w) closed l.0 d.lists good (λ x is. is)
-effect_good w d t (call.Reset l a) good = all_changed (is_good_list w) (λ _. begun a.0) l.0 d.lists good (λ x is. refl)
-effect_good w d t (call.Execute q ls) good = good
-effect_good w d t (call.Signal q f v) good = good
-effect_good w d t (call.HostSignal f v) good = good
-effect_good w d t (call.HostWait f v) good = good
-effect_good w d t (call.Value f) good = good
-effect_good w d t (call.Write b o ws) good = good
-effect_good w d t (call.Read b o n) good = good
+change_good : (w : World) (k : Change) (x : Listed) → is_good_list w x ≡ true → is_good_list w (changed w k x) ≡ true
+change_good w (records what) x good = recorded_good w what x good
+change_good w closes x good = good
+change_good w fails x good = good
+change_good w (begins a) x good = refl
 
-failed_good : (w : World) (b : Bool) (l : ℕ) (d : Desk) → AreGood w d.lists → AreGood w (failed_if b l d).lists
-failed_good w true l d good = all_changed (is_good_list w) failed l d.lists good (λ x is. is)
-failed_good w false l d good = good
-
-refused_good : (w : World) (d : Desk) (c : Call) → AreGood w d.lists → AreGood w (after_refused d c).lists
-refused_good w d (call.Recording l what) good = good
-refused_good w d (call.Close l) good = failed_good w (is_recording (list_of d.lists l.0)) l.0 d good
-refused_good w d (call.Reset l a) good = good
-refused_good w d (call.Execute q ls) good = good
-refused_good w d (call.Signal q f v) good = good
-refused_good w d (call.HostSignal f v) good = good
-refused_good w d (call.HostWait f v) good = good
-refused_good w d (call.Value f) good = good
-refused_good w d (call.Write b o ws) good = good
-refused_good w d (call.Read b o n) good = good
-
-call_good : (w : World) (r : Option Hresult) (d : Desk) (t : ℕ) (c : Call) → AreGood w d.lists → AreGood w (desk_or r (effect w d t c) (after_refused d c)).lists
-call_good w None d t c good = effect_good w d t c good
-call_good w (Some e) d t c good = refused_good w d c good
+changes_good : (w : World) (o : Option (At Change)) (lists : List Listed) → AreGood w lists → AreGood w (changed_by (changed w) o lists)
+changes_good w None lists good = good
+changes_good w (Some x) lists good = all_changed (is_good_list w) (changed w x.what) x.place lists good (change_good w x.what)
 
 event_good : (w : World) (d : Desk) (e : Event) → AreGood w d.lists → AreGood w (desk_after w d e).lists
-event_good w d (event.Call t c r) good = call_good w (refusal w d c) d t.0 c good
+event_good w d (event.Call t c r) good = changes_good w (done w d.lists c).list d.lists good
 event_good w d (event.Awake t) good = good
 event_good w d (event.Queue q) good = ap (list_all (is_good_list w)) (operation_lists (dropped d q.0) (head_of d q.0)) ∙ good
 
@@ -100,21 +78,17 @@ one_good : (w : World) (b : Bool) (o : Operation) → is_good_operation w o ≡ 
 one_good w true o good = and_of (is_good_operation w o) true good refl
 one_good w false o good = refl
 
-called_good : (w : World) (r : Option Hresult) (d : Desk) (q : ℕ) (c : Call) → AreGood w d.lists → list_all (is_good_operation w) (unless_refused r (operation_of d q c)) ≡ true
-called_good w (Some e) d q c good = refl
-called_good w None d q (call.Recording l what) good = refl
-called_good w None d q (call.Close l) good = refl
-called_good w None d q (call.Reset l a) good = refl
-called_good w None d q (call.Execute p ls) good = one_good w (p.0 == q) (operation.Execute (gathered d.lists (map (λ l. l.0) ls))) (gathered_good w d.lists (map (λ l. l.0) ls) good)
-called_good w None d q (call.Signal p f v) good = one_good w (p.0 == q) (operation.Signal f v) refl
-called_good w None d q (call.HostSignal f v) good = refl
-called_good w None d q (call.HostWait f v) good = refl
-called_good w None d q (call.Value f) good = refl
-called_good w None d q (call.Write b o ws) good = refl
-called_good w None d q (call.Read b o n) good = refl
+task_good : (w : World) (lists : List Listed) (k : Task) → AreGood w lists → is_good_operation w (operation_of lists k) ≡ true
+task_good w lists (executes ls) good = gathered_good w lists (map (λ l. l.0) ls) good
+task_good w lists (signals f v) good = refl
+
+called_good : (w : World) (lists : List Listed) (q : ℕ) (o : Option (At Task)) → AreGood w lists →
+    list_all (is_good_operation w) (here_of q (operation_given lists o)) ≡ true
+called_good w lists q None good = refl
+called_good w lists q (Some x) good = one_good w (x.place == q) (operation_of lists x.what) (task_good w lists x.what good)
 
 by_event : (w : World) (d : Desk) (q : ℕ) (e : Event) → AreGood w d.lists → list_all (is_good_operation w) (called_by w d q e) ≡ true
-by_event w d q (event.Call t c r) good = called_good w (refusal w d c) d q c good
+by_event w d q (event.Call t c r) good = called_good w d.lists q (done w d.lists c).gives good
 by_event w d q (event.Awake t) good = refl
 by_event w d q (event.Queue p) good = refl
 

@@ -1,3 +1,4 @@
+pub mod CallEffects
 pub mod Operations
 pub mod Recorders
 pub mod Gathered

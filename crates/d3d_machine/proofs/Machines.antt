@@ -10,12 +10,13 @@ use Rattle.d3d_machine.specs.declared.events.Operation.{Operation}
 use Rattle.d3d_machine.specs.declared.events.Event.{Event}
 use Rattle.d3d_machine.specs.declared.events.Event.TheVariants as event
 use Rattle.d3d_machine.specs.State.{Desk, State, place_of, called_of}
-use Rattle.d3d_machine.specs.Effects.{desk_after_operation, memory_after_operation, after}
+use Rattle.d3d_machine.specs.Effects.{done, desk_after_operation, memory_after_operation, after}
 use Rattle.d3d_machine.specs.Shape.{HasLengths, HasShape}
 use Rattle.d3d_machine.specs.Steps.{woken_if, queue_if, queue_step, served}
 use Rattle.d3d_machine.specs.Machine.{operations_in, oldest_in}
 use Rattle.d3d_machine.proofs.Shape.{after_has_shape, woken_keeps, operation_keeps, operation_length}
-use Rattle.d3d_machine.proofs.Places.{length_called, made_called}
+use Rattle.d3d_machine.proofs.CallEffects.{length_threads}
+use Rattle.d3d_machine.proofs.Places.{made_done}
 
 -- the oldest operation of a queue that is lent
 pub oldest_is : (called : List (Roomy Operation)) (q : ℕ) (x : Roomy Operation) → q < length called → x ≡ get_or called q x →
@@ -66,7 +67,7 @@ shape_completed w s u q called o shape is now =
 -- a thread that has been served, but not counted
 pub thread_served : (w : World) (s u : State) (t : ℕ) (c : Call) → HasShape w s → u ≡ served w s t c → t < length w.scripts → t < length u.desk.threads
 thread_served w s u t c shape is within =
-    omega (arith, ap (λ (x : State). length x.desk.threads) is, length_called w s.desk t c, shape.desk.threads, within)
+    omega (arith, ap (λ (x : State). length x.desk.threads) is, length_threads s.desk t (done w s.desk.lists c), shape.desk.threads, within)
 
 pub count_served : (w : World) (s u : State) (t : ℕ) (c : Call) → u ≡ served w s t c → (place_of s.desk t).made + 1 < 2 ^ 64 → (place_of u.desk t).made + 1 < 2 ^ 64
-count_served w s u t c is small = omega (arith, ap (λ (x : State). (place_of x.desk t).made) is, made_called w s.desk t c t, small)
+count_served w s u t c is small = omega (arith, ap (λ (x : State). (place_of x.desk t).made) is, made_done w s.desk t (done w s.desk.lists c) t, small)

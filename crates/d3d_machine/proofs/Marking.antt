@@ -5,7 +5,8 @@ use Rattle.std.specs.Option.{option_map}
 use Rattle.std.proofs.lemmas.Bool.{cases_eq}
 use Rattle.std.proofs.lemmas.Bool.Decides.{nat_tests}
 use Rattle.dx_base.specs.Lists.{changed_at}
-use Rattle.dx_base.specs.declared.hresult.Hresult.{Hresult}
+use Rattle.dx_base.specs.Effects.{At}
+use Rattle.dx_base.proofs.Effects.{unless_some}
 use Rattle.dx_base.specs.declared.ids.ThreadId.{ThreadId}
 use Rattle.dx_base.specs.declared.ids.FenceId.{FenceId}
 use Rattle.d3d_machine.specs.declared.world.World.{World}
@@ -18,16 +19,18 @@ use Rattle.d3d_machine.specs.declared.events.Event.{Event}
 use Rattle.d3d_machine.specs.declared.events.Event.TheVariants as event
 use Rattle.d3d_machine.specs.World.{IsWorld}
 use Rattle.d3d_machine.specs.State.{Waiting, Desk, State, Place, place_of, first_state, opening_place}
-use Rattle.d3d_machine.specs.Replies.{refusal}
-use Rattle.d3d_machine.specs.Effects.{effect, after_refused, desk_or, marked_place, marked_option, dropped, desk_after_operation, head_of, desk_after_call, after, after_all}
+use Rattle.d3d_machine.specs.Replies.{refusal_by}
+use Rattle.d3d_machine.specs.CallEffects.{here_of, does}
+use Rattle.d3d_machine.specs.Effects.{done, marked_places, waiting_places, marked_option, dropped, desk_after_operation, head_of, desk_after_call, after, after_all}
 use Rattle.d3d_machine.specs.Play.{May, SameButWords, IsRunButWords, state_after, calls_by}
-use Rattle.d3d_machine.specs.Fences.{update_of_call, update_of, updates_from, applied_updates, is_met}
+use Rattle.d3d_machine.specs.Fences.{update_of, updates_from, applied_updates, is_met}
 use Rattle.d3d_machine.specs.Marks.{waiting_at, marked_by, current_update, is_awake_of, IsMetSince}
+use Rattle.d3d_machine.proofs.CallEffects.{is_wait}
 use Rattle.d3d_machine.proofs.Runs.{state_after_append, run_induction, calls_in_append}
-use Rattle.d3d_machine.proofs.Places.{place_in, one_more, kept_at, refused_threads, scripted, calls_by_no}
+use Rattle.d3d_machine.proofs.Places.{place_in, one_more, kept_at, scripted, calls_by_no}
 use Rattle.d3d_machine.proofs.Marks.{is_met_more, applied_append}
 use Rattle.d3d_machine.proofs.Named.{next_is_named}
-use Rattle.d3d_machine.proofs.Waits.{other_call, waits_mapped, waits_on, wait_begins, wait_ends}
+use Rattle.d3d_machine.proofs.Waits.{other_call, waits_mapped, waits_marked, waits_on, wait_begins, wait_ends}
 
 -- the event is a wait that a thread calls
 pub record IsWaitOf (t : ℕ) (e : Event) : Type 0 where
@@ -38,35 +41,24 @@ pub record IsWaitOf (t : ℕ) (e : Event) : Type 0 where
   pub of_thread : thread.0 ≡ t
   pub is : e ≡ event.Call thread (call.HostWait fence value) reply
 
-either_waits : (r : Option Hresult) (good bad : Desk) (t : ℕ) (o : Option Waiting) → (place_of good t).waits ≡ o → (place_of bad t).waits ≡ o → (place_of (desk_or r good bad) t).waits ≡ o
-either_waits None good bad t o g b = g
-either_waits (Some e) good bad t o g b = b
-
--- a call whose effect leaves the waits leaves them
-quiet_call : (w : World) (d : Desk) (u : ℕ) (c : Call) (t : ℕ) → (place_of (effect w d u c) t).waits ≡ (place_of d t).waits →
-    (place_of (desk_after_call w d u c) t).waits ≡ (place_of d t).waits
-quiet_call w d u c t h =
-    kept_at (λ p. p.waits) one_more (λ p. refl) (desk_or (refusal w d c) (effect w d u c) (after_refused d c)).threads u t
-    ∙ either_waits (refusal w d c) (effect w d u c) (after_refused d c) t (place_of d t).waits h (ap (λ ps. (place_in ps t).waits) (refused_threads d c))
-
--- a host signal begins no wait
-signalled_none : (w : World) (d : Desk) (u : ℕ) (f : FenceId) (v : ℕ) (t : ℕ) → (place_of d t).waits ≡ None →
-    (place_of (desk_after_call w d u (call.HostSignal f v)) t).waits ≡ None
-signalled_none w d u f v t h =
-    kept_at (λ p. p.waits) one_more (λ p. refl) (map (marked_place f.0 v) d.threads) u t ∙ waits_mapped f.0 v d.threads t ∙ ap (marked_option f.0 v) h
-
 own_call : (w : World) (d : Desk) (u : ThreadId) (c : Call) (r : Reply) (t : ℕ) → u.0 ≡ t → (place_of d t).waits ≡ None →
     ((place_of (desk_after_call w d u.0 c) t).waits ≡ None) ⊎ IsWaitOf t (event.Call u c r)
-own_call w d u (call.Recording l what) r t e h = inl (quiet_call w d u.0 (call.Recording l what) t refl ∙ h)
-own_call w d u (call.Close l) r t e h = inl (quiet_call w d u.0 (call.Close l) t refl ∙ h)
-own_call w d u (call.Reset l a) r t e h = inl (quiet_call w d u.0 (call.Reset l a) t refl ∙ h)
-own_call w d u (call.Execute q ls) r t e h = inl (quiet_call w d u.0 (call.Execute q ls) t refl ∙ h)
-own_call w d u (call.Signal q f v) r t e h = inl (quiet_call w d u.0 (call.Signal q f v) t refl ∙ h)
-own_call w d u (call.HostSignal f v) r t e h = inl (signalled_none w d u.0 f v t h)
-own_call w d u (call.HostWait f v) r t e h = inr (record { thread = u; fence = f; value = v; reply = r; of_thread = e; is = refl })
-own_call w d u (call.Value f) r t e h = inl (quiet_call w d u.0 (call.Value f) t refl ∙ h)
-own_call w d u (call.Write b offset ws) r t e h = inl (quiet_call w d u.0 (call.Write b offset ws) t refl ∙ h)
-own_call w d u (call.Read b offset bytes) r t e h = inl (quiet_call w d u.0 (call.Read b offset bytes) t refl ∙ h)
+own_call w d u c r t e h = by_wait (done w d.lists c).waits refl
+  where
+    by_wait : (o : Option (At ℕ)) → (done w d.lists c).waits ≡ o → ((place_of (desk_after_call w d u.0 c) t).waits ≡ None) ⊎ IsWaitOf t (event.Call u c r)
+    by_wait None is =
+        let ps : List Place = marked_places (done w d.lists c).sets d.threads in
+        inl (kept_at (λ p. p.waits) one_more (λ p. refl) (waiting_places d u.0 (done w d.lists c).waits ps) u.0 t
+        ∙ ap (λ x. (place_in (waiting_places d u.0 x ps) t).waits) is ∙ waits_marked (done w d.lists c).sets d.threads t
+        ∙ ap (option_map (λ x. marked_by x (here_of x.fence (done w d.lists c).sets))) h)
+    by_wait (Some x) is = inr (record {
+      thread = u;
+      fence = record { 0 = x.place };
+      value = x.what;
+      reply = r;
+      of_thread = e;
+      is = ap (λ k. event.Call u k r) (is_wait c x (unless_some (does c).waits (refusal_by w d.lists c) x is));
+    })
 
 still_none : (ps : List Place) (u t : ℕ) → (place_in ps t).waits ≡ None → (place_in (changed_at (λ p. record p { waits = None }) u ps) t).waits ≡ None
 still_none [] u t h = refl
@@ -85,7 +77,7 @@ pub none_step : (w : World) (s : State) (e : Event) (t : ℕ) → (place_of s.de
     ((place_of (after w s e).desk t).waits ≡ None) ⊎ IsWaitOf t e
 none_step w s (event.Call u c r) t h = elim (cases_eq u.0 t) [
   | inl e ↦ own_call w s.desk u c r t e h
-  | inr n ↦ inl (other_call w s.desk u.0 c t n ∙ ap (option_map (λ x. marked_by x (update_of_call x.fence c))) h)
+  | inr n ↦ inl (other_call w s.desk u.0 c t n ∙ ap (option_map (λ x. marked_by x (here_of x.fence (done w s.desk.lists c).sets))) h)
 ]
 none_step w s (event.Awake u) t h = inl (still_none s.desk.threads u.0 t h)
 none_step w s (event.Queue q) t h = inl (operation_none (dropped s.desk q.0) (head_of s.desk q.0) t h)
@@ -95,8 +87,8 @@ pub updates_from_both : (w : World) (s : State) (f : ℕ) (es fs : List Event) �
     updates_from w s f (es ++ fs) ≡ updates_from w s f es ++ updates_from w (after_all w s es) f fs
 updates_from_both w s f [] fs = refl
 updates_from_both w s f (e ∷ es) fs =
-    ap (λ us. update_of s.desk f e ++ us) (updates_from_both w (after w s e) f es fs)
-    ∙ sym (append_assoc (update_of s.desk f e) (updates_from w (after w s e) f es) (updates_from w (after_all w (after w s e) es) f fs))
+    ap (λ us. update_of w s.desk f e ++ us) (updates_from_both w (after w s e) f es fs)
+    ∙ sym (append_assoc (update_of w s.desk f e) (updates_from w (after w s e) f es) (updates_from w (after_all w (after w s e) es) f fs))
 
 -- the update that was current at an earlier moment has been applied
 pub current_is_applied : (w : World) (h before behind : List Event) (f : ℕ) → h ≡ before ++ behind → current_update w before f ≤ length (applied_updates w h f)
@@ -142,7 +134,7 @@ begins_since w h e t y c world may now =
 
 -- a wait that goes on with an event
 goes_since : (w : World) (h : List Event) (e : Event) (t : ℕ) (x : Waiting) → IsMetSince w h t x → (place_of (state_after w h).desk t).waits ≡ Some x →
-    May SameButWords w (state_after w h) e → IsMetSince w (h ++ e ∷ []) t (marked_by x (update_of (state_after w h).desk x.fence e))
+    May SameButWords w (state_after w h) e → IsMetSince w (h ++ e ∷ []) t (marked_by x (update_of w (state_after w h).desk x.fence e))
 goes_since w h e t x i was may = record {
   before = i.before;
   behind = i.behind ++ e ∷ [];
@@ -153,8 +145,8 @@ goes_since w h e t x i was may = record {
   of_fence = i.of_fence;
   history = ap (λ es. es ++ e ∷ []) i.history ∙ append_assoc i.before (event.Call i.thread (call.HostWait i.fence x.value) i.reply ∷ i.behind) (e ∷ []);
   last = calls_in_append t i.behind e ∙ ap (λ cs. cs ++ calls_by t e) i.last ∙ sleeping_call w (state_after w h) e t x was may;
-  mark = ap (λ b. b || list_any (λ u. nat_le x.value u) (update_of (state_after w h).desk x.fence e)) i.mark
-      ∙ sym (is_met_more (applied_updates w h x.fence) (update_of (state_after w h).desk x.fence e) (current_update w i.before x.fence) x.value
+  mark = ap (λ b. b || list_any (λ u. nat_le x.value u) (update_of w (state_after w h).desk x.fence e)) i.mark
+      ∙ sym (is_met_more (applied_updates w h x.fence) (update_of w (state_after w h).desk x.fence e) (current_update w i.before x.fence) x.value
       (current_is_applied w h i.before (event.Call i.thread (call.HostWait i.fence x.value) i.reply ∷ i.behind) x.fence i.history))
       ∙ ap (λ us. is_met us (current_update w i.before x.fence) x.value) (sym (applied_append w h e x.fence));
 }
@@ -172,9 +164,9 @@ goes_unless : (w : World) (h : List Event) (e : Event) (t : ℕ) (x y : Waiting)
 goes_unless w h e t x y true a i was may now =
     let none : (place_of (state_after w (h ++ e ∷ [])).desk t).waits ≡ None = awake_ends w h e t a in cc
 goes_unless w h e t x y false a i was may now =
-    let on : (place_of (state_after w (h ++ e ∷ [])).desk t).waits ≡ Some (marked_by x (update_of (state_after w h).desk x.fence e))
+    let on : (place_of (state_after w (h ++ e ∷ [])).desk t).waits ≡ Some (marked_by x (update_of w (state_after w h).desk x.fence e))
     = ap (λ s. (place_of s.desk t).waits) (state_after_append w h e) ∙ waits_on SameButWords w (state_after w h) e t x was may a in
-    let same : marked_by x (update_of (state_after w h).desk x.fence e) ≡ y = cc in
+    let same : marked_by x (update_of w (state_after w h).desk x.fence e) ≡ y = cc in
     subst (λ z. IsMetSince w (h ++ e ∷ []) t z) same (goes_since w h e t x i was may)
 
 since_step : (w : World) (h : List Event) (e : Event) (t : ℕ) (y : Waiting) (o : Option Waiting) → (place_of (state_after w h).desk t).waits ≡ o → IsWorld w →

@@ -6,19 +6,17 @@ use Rattle.std.proofs.lemmas.List.Folds.{list_any-append}
 use Rattle.std.proofs.lemmas.Bool.{cases_eq}
 use Rattle.std.proofs.lemmas.Bool.Decides.{nat_tests}
 use Rattle.dx_base.specs.Lists.{changed_at}
-use Rattle.dx_base.specs.declared.hresult.Hresult.{Hresult}
+use Rattle.dx_base.specs.Effects.{At, changed_by}
 use Rattle.d3d_machine.specs.declared.world.World.{World}
-use Rattle.d3d_machine.specs.declared.calls.Call.{Call}
-use Rattle.d3d_machine.specs.declared.calls.Call.TheVariants as call
 use Rattle.d3d_machine.specs.declared.events.Operation.{Operation}
 use Rattle.d3d_machine.specs.declared.events.Operation.TheVariants as operation
 use Rattle.d3d_machine.specs.declared.events.Event.{Event}
 use Rattle.d3d_machine.specs.declared.events.Event.TheVariants as event
-use Rattle.d3d_machine.specs.State.{Desk, State, value_of, is_recording, list_of, first_state}
-use Rattle.d3d_machine.specs.Replies.{refusal}
-use Rattle.d3d_machine.specs.Effects.{effect, after_refused, failed_if, desk_or, dropped, desk_after_operation, head_of, desk_after_call, after, after_all}
+use Rattle.d3d_machine.specs.State.{Desk, State, value_of, first_state}
+use Rattle.d3d_machine.specs.CallEffects.{here_of}
+use Rattle.d3d_machine.specs.Effects.{done, dropped, desk_after_operation, head_of, after, after_all}
 use Rattle.d3d_machine.specs.Play.{state_after}
-use Rattle.d3d_machine.specs.Fences.{update_of_operation, update_of_call, update_of, updates_from, applied_updates, is_met}
+use Rattle.d3d_machine.specs.Fences.{operation_sets, update_of, updates_from, applied_updates, is_met}
 use Rattle.d3d_machine.specs.Marks.{current_update}
 use Rattle.d3d_machine.specs.Shape.{HasShape}
 use Rattle.d3d_machine.proofs.Shape.{after_has_shape, first_has_shape}
@@ -40,7 +38,7 @@ is_met_one applied u since v h = is_met_more applied (u ∷ []) since v h ∙ ap
 
 -- the updates after one event more
 pub applied_append : (w : World) (h : List Event) (e : Event) (f : ℕ) →
-    applied_updates w (h ++ e ∷ []) f ≡ applied_updates w h f ++ update_of (state_after w h).desk f e
+    applied_updates w (h ++ e ∷ []) f ≡ applied_updates w h f ++ update_of w (state_after w h).desk f e
 applied_append w h e f = ap (λ us. value_of (first_state w).desk f ∷ us) (updates_from_append w (first_state w) f h e)
 
 abbrev value_in : List ℕ → ℕ → ℕ
@@ -58,30 +56,6 @@ value_other v (x ∷ vs) zero (suc f) n = refl
 value_other v (x ∷ vs) (suc g) zero n = refl
 value_other v (x ∷ vs) (suc g) (suc f) n = value_other v vs g f (λ e. n (ap suc e))
 
-either_fences : (r : Option Hresult) (good bad : Desk) (vs : List ℕ) → good.fences ≡ vs → bad.fences ≡ vs → (desk_or r good bad).fences ≡ vs
-either_fences None good bad vs g b = g
-either_fences (Some e) good bad vs g b = b
-
-pub failed_fences : (b : Bool) (l : ℕ) (d : Desk) → (failed_if b l d).fences ≡ d.fences
-failed_fences true l d = refl
-failed_fences false l d = refl
-
-refused_fences : (d : Desk) (c : Call) → (after_refused d c).fences ≡ d.fences
-refused_fences d (call.Recording l what) = refl
-refused_fences d (call.Close l) = failed_fences (is_recording (list_of d.lists l.0)) l.0 d
-refused_fences d (call.Reset l a) = refl
-refused_fences d (call.Execute q ls) = refl
-refused_fences d (call.Signal q f v) = refl
-refused_fences d (call.HostSignal f v) = refl
-refused_fences d (call.HostWait f v) = refl
-refused_fences d (call.Value f) = refl
-refused_fences d (call.Write b offset ws) = refl
-refused_fences d (call.Read b offset bytes) = refl
-
--- a call whose effect leaves the fences leaves them
-quiet_fences : (w : World) (d : Desk) (u : ℕ) (c : Call) → (effect w d u c).fences ≡ d.fences → (desk_after_call w d u c).fences ≡ d.fences
-quiet_fences w d u c quiet = either_fences (refusal w d c) (effect w d u c) (after_refused d c) d.fences quiet (refused_fences d c)
-
 -- a fence's value and its last update: none more, or one more that is the value
 FenceStep : ℕ → List ℕ → ℕ → Type 0
 FenceStep old us new = ((us ≡ []) × (new ≡ old)) ⊎ (us ≡ new ∷ [])
@@ -95,34 +69,22 @@ signal_step vs g f v h = elim (cases_eq g f) [
 ]
 
 operation_step : (d : Desk) (o : Option Operation) (f : ℕ) → f < length d.fences →
-    FenceStep (value_of d f) (update_of_operation f o) (value_of (desk_after_operation d o) f)
+    FenceStep (value_of d f) (here_of f (operation_sets o)) (value_of (desk_after_operation d o) f)
 unfolding FenceStep
 operation_step d None f h = inl (refl, refl)
 operation_step d (Some (operation.Execute commands)) f h = inl (refl, refl)
 operation_step d (Some (operation.Signal g v)) f h = signal_step d.fences g.0 f v h
 
-quiet_step : (w : World) (d : Desk) (u : ℕ) (c : Call) (f : ℕ) → (effect w d u c).fences ≡ d.fences → FenceStep (value_of d f) [] (value_of (desk_after_call w d u c) f)
+-- a fence that takes a value where it is one
+sets_step : (o : Option (At ℕ)) (vs : List ℕ) (f : ℕ) → f < length vs → FenceStep (value_in vs f) (here_of f o) (value_in (changed_by (λ v _. v) o vs) f)
 unfolding FenceStep
-quiet_step w d u c f quiet = inl (refl, ap (λ vs. value_in vs f) (quiet_fences w d u c quiet))
-
--- a host signal gives its fence its value, and no other call changes a fence
-call_step : (w : World) (d : Desk) (u : ℕ) (c : Call) (f : ℕ) → f < length d.fences →
-    FenceStep (value_of d f) (update_of_call f c) (value_of (desk_after_call w d u c) f)
-call_step w d u (call.Recording l what) f h = quiet_step w d u (call.Recording l what) f refl
-call_step w d u (call.Close l) f h = quiet_step w d u (call.Close l) f refl
-call_step w d u (call.Reset l a) f h = quiet_step w d u (call.Reset l a) f refl
-call_step w d u (call.Execute q ls) f h = quiet_step w d u (call.Execute q ls) f refl
-call_step w d u (call.Signal q g v) f h = quiet_step w d u (call.Signal q g v) f refl
-call_step w d u (call.HostSignal g v) f h = signal_step d.fences g.0 f v h
-call_step w d u (call.HostWait g v) f h = quiet_step w d u (call.HostWait g v) f refl
-call_step w d u (call.Value g) f h = quiet_step w d u (call.Value g) f refl
-call_step w d u (call.Write b offset ws) f h = quiet_step w d u (call.Write b offset ws) f refl
-call_step w d u (call.Read b offset bytes) f h = quiet_step w d u (call.Read b offset bytes) f refl
+sets_step None vs f h = inl (refl, refl)
+sets_step (Some x) vs f h = signal_step vs x.place f x.what h
 
 fence_step : (w : World) (s : State) (e : Event) (f : ℕ) → f < length s.desk.fences →
-    FenceStep (value_of s.desk f) (update_of s.desk f e) (value_of (after w s e).desk f)
+    FenceStep (value_of s.desk f) (update_of w s.desk f e) (value_of (after w s e).desk f)
 unfolding FenceStep
-fence_step w s (event.Call u c r) f h = call_step w s.desk u.0 c f h
+fence_step w s (event.Call u c r) f h = sets_step (done w s.desk.lists c).sets s.desk.fences f h
 fence_step w s (event.Awake u) f h = inl (refl, refl)
 fence_step w s (event.Queue q) f h = operation_step (dropped s.desk q.0) (head_of s.desk q.0) f h
 
@@ -136,7 +98,7 @@ last_from : (w : World) (s : State) (f : ℕ) (es : List Event) → HasShape w s
     drop (length (updates_from w s f es)) (value_of s.desk f ∷ updates_from w s f es) ≡ value_of (after_all w s es).desk f ∷ []
 last_from w s f [] shape h = refl
 last_from w s f (e ∷ es) shape h =
-    last_step (value_of s.desk f) (value_of (after w s e).desk f) (value_of (after_all w (after w s e) es).desk f) (update_of s.desk f e)
+    last_step (value_of s.desk f) (value_of (after w s e).desk f) (value_of (after_all w (after w s e) es).desk f) (update_of w s.desk f e)
     (updates_from w (after w s e) f es) (fence_step w s e f (rw shape.desk.fences h))
     (last_from w (after w s e) f es (after_has_shape w s e shape) h)
 

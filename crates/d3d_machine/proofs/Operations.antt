@@ -9,21 +9,18 @@ use Rattle.std.specs.List.{slice_get}
 use Rattle.std.specs.Option.{option_map}
 use Rattle.std.specs.Prelude.{if◌then◌else◌, ◌==◌, nat_lt}
 use Rattle.dx_base.specs.Lists.{changed_at}
-use Rattle.dx_base.specs.declared.hresult.Hresult.{Hresult}
 use Rattle.dx_base.proofs.Lists.{get_changed, get_changed_other}
 use Rattle.d3d_machine.specs.declared.world.World.{World}
-use Rattle.d3d_machine.specs.declared.calls.Call.{Call}
-use Rattle.d3d_machine.specs.declared.calls.Call.TheVariants as call
 use Rattle.d3d_machine.specs.declared.calls.Reply.{Reply}
 use Rattle.d3d_machine.specs.declared.events.Operation.{Operation}
 use Rattle.d3d_machine.specs.declared.events.Operation.TheVariants as operation
 use Rattle.d3d_machine.specs.declared.events.Event.{Event}
 use Rattle.d3d_machine.specs.declared.events.Event.TheVariants as event
-use Rattle.d3d_machine.specs.State.{Desk, State, first_state, called_of, list_of, is_recording}
-use Rattle.d3d_machine.specs.Replies.{refusal}
-use Rattle.d3d_machine.specs.Effects.{after, after_all, desk_after, desk_after_operation, counted, desk_or, effect, after_refused, failed_if, pushed, dropped, head_of, gathered}
+use Rattle.d3d_machine.specs.State.{Desk, State, first_state, called_of}
+use Rattle.d3d_machine.specs.Effects.{after, after_all, desk_after, desk_after_operation, dropped, head_of}
 use Rattle.d3d_machine.specs.Play.{May, Plays, state_after}
-use Rattle.d3d_machine.specs.Operations.{operation_of, unless_refused, called_by, operations_from, operations, completions_by, counter}
+use Rattle.d3d_machine.proofs.CallEffects.{one_more_here}
+use Rattle.d3d_machine.specs.Operations.{event_gives, called_by, operations_from, operations, completions_by, counter}
 
 -- the operations of a history that goes on by one event
 pub operations_append : (w : World) (s : State) (q : ℕ) (h : List Event) (e : Event) →
@@ -50,51 +47,8 @@ changed_there : (f : List Operation → List Operation) (p q : ℕ) (xs : List (
     slice_get (changed_at f p xs) q ≡ Some os
 changed_there f p q xs os other is = get_changed_other f xs p q other ∙ is
 
--- what a push leaves on a queue
-push_step : (d : Desk) (p q : ℕ) (o : Operation) (os : List Operation) → slice_get d.called q ≡ Some os →
-    slice_get (pushed d p o).called q ≡ Some (os ++ (if (p == q) then o ∷ [] else []))
-push_step d p q o os is =
-    elim (eqb_tells p q) [
-      | inl same ↦ rw same.0 (changed_here (λ xs. xs ++ o ∷ []) p q d.called os same.1 is)
-      | inr other ↦ rw other.0 (changed_there (λ xs. xs ++ o ∷ []) p q d.called os other.1 is ∙ ap (λ xs. Some xs) (sym (append-nil os)))
-    ]
-
 more_by_none : (d : Desk) (q : ℕ) (os : List Operation) → slice_get d.called q ≡ Some os → slice_get d.called q ≡ Some (os ++ [])
 more_by_none d q os is = is ∙ ap (λ xs. Some xs) (sym (append-nil os))
-
-pub failed_keeps : (b : Bool) (l : ℕ) (d : Desk) → (failed_if b l d).called ≡ d.called
-failed_keeps true l d = refl
-failed_keeps false l d = refl
-
-refused_keeps : (d : Desk) (c : Call) → (after_refused d c).called ≡ d.called
-refused_keeps d (call.Recording l what) = refl
-refused_keeps d (call.Close l) = failed_keeps (is_recording (list_of d.lists l.0)) l.0 d
-refused_keeps d (call.Reset l a) = refl
-refused_keeps d (call.Execute p ls) = refl
-refused_keeps d (call.Signal p f v) = refl
-refused_keeps d (call.HostSignal f v) = refl
-refused_keeps d (call.HostWait f v) = refl
-refused_keeps d (call.Value f) = refl
-refused_keeps d (call.Write b offset ws) = refl
-refused_keeps d (call.Read b offset bytes) = refl
-
-effect_step : (w : World) (d : Desk) (t q : ℕ) (c : Call) (os : List Operation) → slice_get d.called q ≡ Some os →
-    slice_get (effect w d t c).called q ≡ Some (os ++ operation_of d q c)
-effect_step w d t q (call.Recording l what) os is = more_by_none d q os is
-effect_step w d t q (call.Close l) os is = more_by_none d q os is
-effect_step w d t q (call.Reset l a) os is = more_by_none d q os is
-effect_step w d t q (call.Execute p ls) os is = push_step d p.0 q (operation.Execute (gathered d.lists (map (λ l. l.0) ls))) os is
-effect_step w d t q (call.Signal p f v) os is = push_step d p.0 q (operation.Signal f v) os is
-effect_step w d t q (call.HostSignal f v) os is = more_by_none d q os is
-effect_step w d t q (call.HostWait f v) os is = more_by_none d q os is
-effect_step w d t q (call.Value f) os is = more_by_none d q os is
-effect_step w d t q (call.Write b offset ws) os is = more_by_none d q os is
-effect_step w d t q (call.Read b offset bytes) os is = more_by_none d q os is
-
-call_step : (r : Option Hresult) (w : World) (d : Desk) (t q : ℕ) (c : Call) (os : List Operation) → slice_get d.called q ≡ Some os →
-    slice_get (counted t (desk_or r (effect w d t c) (after_refused d c))).called q ≡ Some (os ++ unless_refused r (operation_of d q c))
-call_step None w d t q c os is = effect_step w d t q c os is
-call_step (Some e) w d t q c os is = ap (λ xs. slice_get xs q) (refused_keeps d c) ∙ more_by_none d q os is
 
 operation_keeps : (d : Desk) (o : Option Operation) → (desk_after_operation d o).called ≡ d.called
 operation_keeps d None = refl
@@ -112,7 +66,7 @@ drop_step d p q os is =
 -- the called and incomplete operations of a queue after an event
 pub called_step : (w : World) (d : Desk) (q : ℕ) (e : Event) (os : List Operation) → slice_get d.called q ≡ Some os →
     slice_get (desk_after w d e).called q ≡ Some (drop (completions_by q e) (os ++ called_by w d q e))
-called_step w d q (event.Call t c r) os is = call_step (refusal w d c) w d t.0 q c os is
+called_step w d q (event.Call t c r) os is = one_more_here (event_gives w d (event.Call t c r)) d.called q os is
 called_step w d q (event.Awake t) os is = more_by_none d q os is
 called_step w d q (event.Queue p) os is =
     ap (λ xs. slice_get xs q) (operation_keeps (dropped d p.0) (head_of d p.0)) ∙ drop_step d p.0 q os is

@@ -1,25 +1,23 @@
 -- The place of a thread after an event, and its calls in a run.
 use Rattle.std.proofs.Common.{ℕ, zero, suc, ◌≡◌, ◌≢◌, ◌<◌, ◌+◌, ◌==◌, refl, sym, ap, ◌∙◌, subst, Bool, true, false, List, [], ◌∷◌, ◌++◌, map, take, length, slice_get, length-append, append-nil, add-one, add-zero, ◌⊎◌, inl, inr, Option, Some, None, arith}
-use Rattle.std.proofs.Math.ListN.{length-map}
 use Rattle.std.proofs.lemmas.Bool.{cases_eq}
 use Rattle.std.proofs.lemmas.Bool.Decides.{nat_tests}
 use Rattle.dx_base.specs.Lists.{changed_at}
-use Rattle.dx_base.proofs.Lists.{length_changed}
-use Rattle.dx_base.specs.declared.hresult.Hresult.{Hresult}
+use Rattle.dx_base.specs.Effects.{At}
 use Rattle.dx_base.specs.declared.ids.ThreadId.{ThreadId}
 use Rattle.d3d_machine.specs.declared.world.World.{World}
 use Rattle.d3d_machine.specs.declared.calls.Call.{Call}
-use Rattle.d3d_machine.specs.declared.calls.Call.TheVariants as call
 use Rattle.d3d_machine.specs.declared.calls.Reply.{Reply}
 use Rattle.d3d_machine.specs.declared.events.Operation.{Operation}
 use Rattle.d3d_machine.specs.declared.events.Operation.TheVariants as operation
 use Rattle.d3d_machine.specs.declared.events.Event.{Event}
 use Rattle.d3d_machine.specs.declared.events.Event.TheVariants as event
-use Rattle.d3d_machine.specs.State.{Desk, State, Place, place_of, script_of, next_call, value_of, is_recording, list_of, opening_place}
-use Rattle.d3d_machine.specs.Replies.{refusal}
-use Rattle.d3d_machine.specs.Effects.{effect, after_refused, failed_if, desk_or, marked_place, dropped, desk_after_operation, head_of, desk_after_call, after, begins_wait}
+use Rattle.d3d_machine.specs.State.{Desk, State, Place, place_of, script_of, next_call, value_of, opening_place}
+use Rattle.d3d_machine.specs.CallEffects.{Does}
+use Rattle.d3d_machine.specs.Effects.{done, desk_by, marked_place, begins_wait, marked_places, waiting_places, dropped, desk_after_operation, head_of, desk_after_call, after}
 use Rattle.d3d_machine.specs.Play.{May, SameButWords, IsRunButWords, state_after, calls_by, calls_in, AreOfScripts}
 use Rattle.d3d_machine.specs.Shape.{HasShape}
+use Rattle.d3d_machine.proofs.CallEffects.{length_threads}
 use Rattle.d3d_machine.proofs.Shape.{run_has_shape}
 use Rattle.d3d_machine.proofs.Runs.{state_after_append, calls_in_append, run_induction}
 
@@ -60,45 +58,17 @@ mapped_here f [] t h = absurd (omega arith)
 mapped_here f (p ∷ ps) zero h = refl
 mapped_here f (p ∷ ps) (suc t) h = mapped_here f ps t (omega arith)
 
-made_effect : (w : World) (d : Desk) (u : ℕ) (c : Call) (t : ℕ) → (place_of (effect w d u c) t).made ≡ (place_of d t).made
-made_effect w d u (call.Recording l what) t = refl
-made_effect w d u (call.Close l) t = refl
-made_effect w d u (call.Reset l a) t = refl
-made_effect w d u (call.Execute q ls) t = refl
-made_effect w d u (call.Signal q f v) t = refl
-made_effect w d u (call.HostSignal f v) t = kept_map (λ p. p.made) (marked_place f.0 v) (λ p. refl) d.threads t
-made_effect w d u (call.HostWait f v) t = kept_at (λ p. p.made) (begins_wait (value_of d f.0) f.0 v) (λ p. refl) d.threads u t
-made_effect w d u (call.Value f) t = refl
-made_effect w d u (call.Write b offset ws) t = refl
-made_effect w d u (call.Read b offset bytes) t = refl
+made_marked : (o : Option (At ℕ)) (ps : List Place) (t : ℕ) → (place_in (marked_places o ps) t).made ≡ (place_in ps t).made
+made_marked None ps t = refl
+made_marked (Some x) ps t = kept_map (λ p. p.made) (marked_place x.place x.what) (λ p. refl) ps t
 
-pub failed_threads : (b : Bool) (l : ℕ) (d : Desk) → (failed_if b l d).threads ≡ d.threads
-failed_threads true l d = refl
-failed_threads false l d = refl
+made_waiting : (d : Desk) (u : ℕ) (o : Option (At ℕ)) (ps : List Place) (t : ℕ) → (place_in (waiting_places d u o ps) t).made ≡ (place_in ps t).made
+made_waiting d u None ps t = refl
+made_waiting d u (Some x) ps t = kept_at (λ p. p.made) (begins_wait (value_of d x.place) x.place x.what) (λ p. refl) ps u t
 
--- a refused call leaves the threads
-pub refused_threads : (d : Desk) (c : Call) → (after_refused d c).threads ≡ d.threads
-refused_threads d (call.Recording l what) = refl
-refused_threads d (call.Close l) = failed_threads (is_recording (list_of d.lists l.0)) l.0 d
-refused_threads d (call.Reset l a) = refl
-refused_threads d (call.Execute q ls) = refl
-refused_threads d (call.Signal q f v) = refl
-refused_threads d (call.HostSignal f v) = refl
-refused_threads d (call.HostWait f v) = refl
-refused_threads d (call.Value f) = refl
-refused_threads d (call.Write b offset ws) = refl
-refused_threads d (call.Read b offset bytes) = refl
-
-made_either : (r : Option Hresult) (good bad : Desk) (t n : ℕ) → (place_of good t).made ≡ n → (place_of bad t).made ≡ n → (place_of (desk_or r good bad) t).made ≡ n
-made_either None good bad t n g b = g
-made_either (Some e) good bad t n g b = b
-
--- a call's effect and its refusal leave the count of calls
-pub made_called : (w : World) (d : Desk) (u : ℕ) (c : Call) (t : ℕ) →
-    (place_of (desk_or (refusal w d c) (effect w d u c) (after_refused d c)) t).made ≡ (place_of d t).made
-made_called w d u c t =
-    made_either (refusal w d c) (effect w d u c) (after_refused d c) t (place_of d t).made
-    (made_effect w d u c t) (ap (λ ps. (place_in ps t).made) (refused_threads d c))
+-- what a call does leaves the count of calls
+pub made_done : (w : World) (d : Desk) (u : ℕ) (x : Does) (t : ℕ) → (place_of (desk_by w d u x) t).made ≡ (place_of d t).made
+made_done w d u x t = made_waiting d u x.waits (marked_places x.sets d.threads) t ∙ made_marked x.sets d.threads t
 
 made_operation : (d : Desk) (o : Option Operation) (t : ℕ) → (place_of (desk_after_operation d o) t).made ≡ (place_of d t).made
 made_operation d None t = refl
@@ -117,41 +87,21 @@ calls_by_yes t u c r e = let yes : (u.0 == t) ≡ true = grind (arith, nat_tests
 pub calls_by_no : (t : ℕ) (u : ThreadId) (c : Call) (r : Reply) → u.0 ≢ t → calls_by t (event.Call u c r) ≡ []
 calls_by_no t u c r n = let no : (u.0 == t) ≡ false = grind (arith, nat_tests) in rw no refl
 
-length_effect : (w : World) (d : Desk) (u : ℕ) (c : Call) → length (effect w d u c).threads ≡ length d.threads
-length_effect w d u (call.Recording l what) = refl
-length_effect w d u (call.Close l) = refl
-length_effect w d u (call.Reset l a) = refl
-length_effect w d u (call.Execute q ls) = refl
-length_effect w d u (call.Signal q f v) = refl
-length_effect w d u (call.HostSignal f v) = length-map d.threads (marked_place f.0 v)
-length_effect w d u (call.HostWait f v) = length_changed (begins_wait (value_of d f.0) f.0 v) d.threads u
-length_effect w d u (call.Value f) = refl
-length_effect w d u (call.Write b offset ws) = refl
-length_effect w d u (call.Read b offset bytes) = refl
-
-length_either : (r : Option Hresult) (good bad : Desk) (n : ℕ) → length good.threads ≡ n → length bad.threads ≡ n → length (desk_or r good bad).threads ≡ n
-length_either None good bad n g b = g
-length_either (Some e) good bad n g b = b
-
--- a call keeps the number of threads
-pub length_called : (w : World) (d : Desk) (u : ℕ) (c : Call) → length (desk_or (refusal w d c) (effect w d u c) (after_refused d c)).threads ≡ length d.threads
-length_called w d u c = length_either (refusal w d c) (effect w d u c) (after_refused d c) (length d.threads) (length_effect w d u c) (ap length (refused_threads d c))
-
 abbrev pub one_more : Place → Place
 one_more p = record p { made = p.made + 1 }
 
 made_call : (w : World) (d : Desk) (u : ThreadId) (c : Call) (r : Reply) (t : ℕ) → u.0 < length d.threads → (u.0 ≡ t) ⊎ (u.0 ≡ t → ⊥) →
     (place_of (desk_after_call w d u.0 c) t).made ≡ (place_of d t).made + length (calls_by t (event.Call u c r))
 made_call w d u c r t inside (inl e) =
-    let here : place_in (changed_at one_more u.0 (desk_or (refusal w d c) (effect w d u.0 c) (after_refused d c)).threads) u.0
-    ≡ one_more (place_of (desk_or (refusal w d c) (effect w d u.0 c) (after_refused d c)) u.0)
-    = changed_here one_more (desk_or (refusal w d c) (effect w d u.0 c) (after_refused d c)).threads u.0 (rw (length_called w d u.0 c) inside) in
+    let here : place_in (changed_at one_more u.0 (desk_by w d u.0 (done w d.lists c)).threads) u.0
+    ≡ one_more (place_of (desk_by w d u.0 (done w d.lists c)) u.0)
+    = changed_here one_more (desk_by w d u.0 (done w d.lists c)).threads u.0 (rw (length_threads d u.0 (done w d.lists c)) inside) in
     let one : length (calls_by u.0 (event.Call u c r)) ≡ 1 = ap length (calls_by_yes u.0 u c r refl) in
     subst (λ k. (place_of (desk_after_call w d u.0 c) k).made ≡ (place_of d k).made + length (calls_by k (event.Call u c r))) e
-    (ap (λ p. p.made) here ∙ rw (made_called w d u.0 c u.0, one) refl)
+    (ap (λ p. p.made) here ∙ rw (made_done w d u.0 (done w d.lists c) u.0, one) refl)
 made_call w d u c r t inside (inr n) =
-    ap (λ p. p.made) (changed_other one_more (desk_or (refusal w d c) (effect w d u.0 c) (after_refused d c)).threads u.0 t n)
-    ∙ made_called w d u.0 c t ∙ rw (ap length (calls_by_no t u c r n)) (omega arith)
+    ap (λ p. p.made) (changed_other one_more (desk_by w d u.0 (done w d.lists c)).threads u.0 t n)
+    ∙ made_done w d u.0 (done w d.lists c) t ∙ rw (ap length (calls_by_no t u c r n)) (omega arith)
 
 first_made : {A : Type 0} (scripts : List A) (t : ℕ) → (place_in (map (λ _. opening_place) scripts) t).made ≡ 0
 first_made [] t = refl

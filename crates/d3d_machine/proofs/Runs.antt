@@ -27,11 +27,11 @@ calls_in_append t [] e = append-nil (calls_by t e)
 calls_in_append t (d ∷ es) e = ap (λ cs. calls_by t d ++ cs) (calls_in_append t es e) ∙ sym (append_assoc (calls_by t d) (calls_in t es) (calls_by t e))
 
 pub updates_from_append : (w : World) (s : State) (f : ℕ) (es : List Event) (e : Event) →
-    updates_from w s f (es ++ e ∷ []) ≡ updates_from w s f es ++ update_of (after_all w s es).desk f e
-updates_from_append w s f [] e = append-nil (update_of s.desk f e)
+    updates_from w s f (es ++ e ∷ []) ≡ updates_from w s f es ++ update_of w (after_all w s es).desk f e
+updates_from_append w s f [] e = append-nil (update_of w s.desk f e)
 updates_from_append w s f (d ∷ es) e =
-    ap (λ us. update_of s.desk f d ++ us) (updates_from_append w (after w s d) f es e)
-    ∙ sym (append_assoc (update_of s.desk f d) (updates_from w (after w s d) f es) (update_of (after_all w (after w s d) es).desk f e))
+    ap (λ us. update_of w s.desk f d ++ us) (updates_from_append w (after w s d) f es e)
+    ∙ sym (append_assoc (update_of w s.desk f d) (updates_from w (after w s d) f es) (update_of w (after_all w (after w s d) es).desk f e))
 
 -- the state after a history and one event more
 pub state_after_append : (w : World) (h : List Event) (e : Event) → state_after w (h ++ e ∷ []) ≡ after w (state_after w h) e

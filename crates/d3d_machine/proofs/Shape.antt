@@ -2,10 +2,8 @@
 use Rattle.std.proofs.Common.{ℕ, ◌≡◌, ◌+◌, ◌/◌, refl, ◌∙◌, Bool, true, false, List, [], ◌∷◌, ◌++◌, map, drop, length, Option, Some, None}
 use Rattle.std.proofs.Math.ListN.{length-map}
 use Rattle.dx_base.proofs.Lists.{length_changed}
-use Rattle.dx_base.specs.declared.hresult.Hresult.{Hresult}
+use Rattle.dx_base.proofs.Effects.{length_by}
 use Rattle.d3d_machine.specs.declared.world.World.{World}
-use Rattle.d3d_machine.specs.declared.calls.Call.{Call}
-use Rattle.d3d_machine.specs.declared.calls.Call.TheVariants as call
 use Rattle.d3d_machine.specs.declared.calls.Record.{Record}
 use Rattle.d3d_machine.specs.declared.calls.Record.TheVariants.{Copy}
 use Rattle.d3d_machine.specs.declared.events.Command.{Command}
@@ -13,11 +11,12 @@ use Rattle.d3d_machine.specs.declared.events.Operation.{Operation}
 use Rattle.d3d_machine.specs.declared.events.Operation.TheVariants as operation
 use Rattle.d3d_machine.specs.declared.events.Event.{Event}
 use Rattle.d3d_machine.specs.declared.events.Event.TheVariants as event
-use Rattle.d3d_machine.specs.State.{Desk, State, list_of, value_of, words_at, is_recording, first_state, opening_place, declared_list, zeros}
-use Rattle.d3d_machine.specs.Replies.{refusal}
+use Rattle.d3d_machine.specs.State.{Desk, State, words_at, first_state, opening_place, declared_list, zeros}
 use Rattle.dx_base.specs.Lists.{put, range_of}
-use Rattle.d3d_machine.specs.Effects.{effect, after_refused, failed_if, desk_or, counted, takes_value, marked_place, dropped, desk_after_operation, head_of, woken, desk_after, written, memory_or, memory_after_operation, memory_after, after_record, after_commands, after, after_all, recorded, closed, failed, begun, gathered, begins_wait}
+use Rattle.d3d_machine.specs.Effects.{changed, operation_given, with_one, done, desk_by, counted, takes_value, marked_place, dropped, desk_after_operation, head_of, woken, desk_after, memory_after_operation, memory_after, after_record, after_commands, after, after_all}
+use Rattle.d3d_machine.specs.CallEffects.{Does}
 use Rattle.d3d_machine.specs.Shape.{HasLengths, HasShape}
+use Rattle.d3d_machine.proofs.CallEffects.{length_threads}
 
 pub first_has_shape : (w : World) → HasShape w (first_state w)
 first_has_shape w = record {
@@ -38,52 +37,14 @@ takes_keeps w f v d h = record {
   threads = length-map d.threads (marked_place f v) ∙ h.threads;
 }
 
-effect_keeps : (w : World) (d : Desk) (t : ℕ) (c : Call) → HasLengths w d → HasLengths w (effect w d t c)
-effect_keeps w d t (call.Recording l what) h = record { fences = h.fences; called = h.called; lists = length_changed (recorded w what) d.lists l.0 ∙ h.lists; threads = h.threads }
-effect_keeps w d t (call.Close l) h = record { fences = h.fences; called = h.called; lists = length_changed closed d.lists l.0 ∙ h.lists; threads = h.threads }
-effect_keeps w d t (call.Reset l a) h = record { fences = h.fences; called = h.called; lists = length_changed (λ _. begun a.0) d.lists l.0 ∙ h.lists; threads = h.threads }
-effect_keeps w d t (call.Execute q ls) h = record {
-  fences = h.fences;
-  called = length_changed (λ os. os ++ operation.Execute (gathered d.lists (map (λ l. l.0) ls)) ∷ []) d.called q.0 ∙ h.called;
-  lists = h.lists;
-  threads = h.threads;
+-- what a call does
+done_keeps : (w : World) (d : Desk) (t : ℕ) (x : Does) → HasLengths w d → HasLengths w (desk_by w d t x)
+done_keeps w d t x h = record {
+  fences = length_by (λ v _. v) x.sets d.fences ∙ h.fences;
+  called = length_by with_one (operation_given d.lists x.gives) d.called ∙ h.called;
+  lists = length_by (changed w) x.list d.lists ∙ h.lists;
+  threads = length_threads d t x ∙ h.threads;
 }
-effect_keeps w d t (call.Signal q f v) h = record {
-  fences = h.fences;
-  called = length_changed (λ os. os ++ operation.Signal f v ∷ []) d.called q.0 ∙ h.called;
-  lists = h.lists;
-  threads = h.threads;
-}
-effect_keeps w d t (call.HostSignal f v) h = takes_keeps w f.0 v d h
-effect_keeps w d t (call.HostWait f v) h = record {
-  fences = h.fences;
-  called = h.called;
-  lists = h.lists;
-  threads = length_changed (begins_wait (value_of d f.0) f.0 v) d.threads t ∙ h.threads;
-}
-effect_keeps w d t (call.Value f) h = h
-effect_keeps w d t (call.Write b offset ws) h = h
-effect_keeps w d t (call.Read b offset bytes) h = h
-
-failed_keeps : (w : World) (b : Bool) (l : ℕ) (d : Desk) → HasLengths w d → HasLengths w (failed_if b l d)
-failed_keeps w true l d h = record { fences = h.fences; called = h.called; lists = length_changed failed d.lists l ∙ h.lists; threads = h.threads }
-failed_keeps w false l d h = h
-
-refused_keeps : (w : World) (d : Desk) (c : Call) → HasLengths w d → HasLengths w (after_refused d c)
-refused_keeps w d (call.Recording l what) h = h
-refused_keeps w d (call.Close l) h = failed_keeps w (is_recording (list_of d.lists l.0)) l.0 d h
-refused_keeps w d (call.Reset l a) h = h
-refused_keeps w d (call.Execute q ls) h = h
-refused_keeps w d (call.Signal q f v) h = h
-refused_keeps w d (call.HostSignal f v) h = h
-refused_keeps w d (call.HostWait f v) h = h
-refused_keeps w d (call.Value f) h = h
-refused_keeps w d (call.Write b offset ws) h = h
-refused_keeps w d (call.Read b offset bytes) h = h
-
-either_keeps : (w : World) (r : Option Hresult) (good bad : Desk) → HasLengths w good → HasLengths w bad → HasLengths w (desk_or r good bad)
-either_keeps w None good bad g b = g
-either_keeps w (Some e) good bad g b = b
 
 counted_keeps : (w : World) (t : ℕ) (d : Desk) → HasLengths w d → HasLengths w (counted t d)
 counted_keeps w t d h = record { fences = h.fences; called = h.called; lists = h.lists; threads = length_changed (λ p. record p { made = p.made + 1 }) d.threads t ∙ h.threads }
@@ -100,9 +61,7 @@ operation_keeps w d (Some (operation.Execute commands)) h = h
 operation_keeps w d (Some (operation.Signal f v)) h = takes_keeps w f.0 v d h
 
 desk_keeps : (w : World) (d : Desk) (e : Event) → HasLengths w d → HasLengths w (desk_after w d e)
-desk_keeps w d (event.Call t c r) h =
-    counted_keeps w t.0 (desk_or (refusal w d c) (effect w d t.0 c) (after_refused d c))
-    (either_keeps w (refusal w d c) (effect w d t.0 c) (after_refused d c) (effect_keeps w d t.0 c h) (refused_keeps w d c h))
+desk_keeps w d (event.Call t c r) h = counted_keeps w t.0 (desk_by w d t.0 (done w d.lists c)) (done_keeps w d t.0 (done w d.lists c) h)
 desk_keeps w d (event.Awake t) h = woken_keeps w t.0 d h
 desk_keeps w d (event.Queue q) h = operation_keeps w (dropped d q.0) (head_of d q.0) (dropped_keeps w d q.0 h)
 
@@ -113,29 +72,13 @@ pub commands_length : (cs : List Command) (m : List (List ℕ)) → length (afte
 commands_length [] m = refl
 commands_length (c ∷ cs) m = commands_length cs (after_record c.what m) ∙ record_length c.what m
 
-written_length : (c : Call) (m : List (List ℕ)) → length (written c m) ≡ length m
-written_length (call.Recording l what) m = refl
-written_length (call.Close l) m = refl
-written_length (call.Reset l a) m = refl
-written_length (call.Execute q ls) m = refl
-written_length (call.Signal q f v) m = refl
-written_length (call.HostSignal f v) m = refl
-written_length (call.HostWait f v) m = refl
-written_length (call.Value f) m = refl
-written_length (call.Write b offset ws) m = length_changed (put (offset / 4) ws) m b.0
-written_length (call.Read b offset bytes) m = refl
-
-either_length : (r : Option Hresult) (good bad : List (List ℕ)) → length good ≡ length bad → length (memory_or r good bad) ≡ length bad
-either_length None good bad h = h
-either_length (Some e) good bad h = refl
-
 pub operation_length : (m : List (List ℕ)) (o : Option Operation) → length (memory_after_operation m o) ≡ length m
 operation_length m None = refl
 operation_length m (Some (operation.Execute commands)) = commands_length commands m
 operation_length m (Some (operation.Signal f v)) = refl
 
 memory_length : (w : World) (s : State) (e : Event) → length (memory_after w s e) ≡ length s.memory
-memory_length w s (event.Call t c r) = either_length (refusal w s.desk c) (written c s.memory) s.memory (written_length c s.memory)
+memory_length w s (event.Call t c r) = length_by (λ p. put p.0 p.1) (done w s.desk.lists c).stores s.memory
 memory_length w s (event.Awake t) = refl
 memory_length w s (event.Queue q) = operation_length s.memory (head_of s.desk q.0)
 

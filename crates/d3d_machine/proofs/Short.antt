@@ -3,21 +3,21 @@ use Rattle.std.proofs.Common.{ℕ, zero, suc, ◌≡◌, ◌<◌, ◌≤◌, ◌
 use Rattle.std.proofs.Math.ListN.{length-map}
 use Rattle.std.proofs.lemmas.Bool.Decides.{nat_tests}
 use Rattle.dx_base.specs.Lists.{changed_at}
+use Rattle.dx_base.specs.Effects.{At, changed_by}
 use Rattle.dx_base.specs.declared.hresult.Hresult.{Hresult}
 use Rattle.dx_base.specs.declared.hresult.Hresult.TheVariants.{Fail}
 use Rattle.dx_base.specs.declared.ids.ListId.{ListId}
 use Rattle.d3d_machine.specs.declared.world.World.{World}
-use Rattle.d3d_machine.specs.declared.calls.Call.{Call}
-use Rattle.d3d_machine.specs.declared.calls.Call.TheVariants as call
 use Rattle.d3d_machine.specs.declared.calls.Record.{Record}
 use Rattle.d3d_machine.specs.declared.events.Listed.{Listed}
 use Rattle.d3d_machine.specs.declared.events.Operation.{Operation}
 use Rattle.d3d_machine.specs.declared.events.Operation.TheVariants as operation
 use Rattle.d3d_machine.specs.declared.events.Event.{Event}
 use Rattle.d3d_machine.specs.declared.events.Event.TheVariants as event
-use Rattle.d3d_machine.specs.State.{Desk, State, list_of, is_recording, first_state, declared_list}
-use Rattle.d3d_machine.specs.Replies.{refusal, refuse_if, record_error, argument_error}
-use Rattle.d3d_machine.specs.Effects.{effect, after_refused, failed_if, desk_or, dropped, desk_after_operation, head_of, desk_after, after, after_all, recorded, recorded_or, kept_or, closed, failed, begun, gathered}
+use Rattle.d3d_machine.specs.State.{Desk, State, list_of, first_state, declared_list}
+use Rattle.d3d_machine.specs.CallEffects.{Change, records, closes, fails, begins}
+use Rattle.d3d_machine.specs.Replies.{refuse_if, record_error, argument_error}
+use Rattle.d3d_machine.specs.Effects.{changed, done, dropped, desk_after_operation, head_of, desk_after, after, after_all, recorded, recorded_or, kept_or, gathered}
 use Rattle.d3d_machine.specs.Play.{state_after}
 use Rattle.d3d_machine.specs.Lists.{commands_of}
 use Rattle.d3d_machine.specs.Shape.{AreShort}
@@ -50,37 +50,15 @@ recorded_short : (w : World) (what : Record) (x : Listed) → Short x → Short 
 recorded_short w what x h =
     keep_short x.error (record_error w x what) what x h (room_left (nat_le 1024 (length x.commands)) (length x.commands) (argument_error w what) refl)
 
-effect_short : (w : World) (d : Desk) (t : ℕ) (c : Call) → ((k : ℕ) → Short (list_of d.lists k)) → (l : ℕ) → Short (list_of (effect w d t c).lists l)
-effect_short w d t (call.Recording i what) h l = changed_short (recorded w what) (recorded_short w what) d.lists i.0 l h
-effect_short w d t (call.Close i) h l = changed_short closed (λ x s. s) d.lists i.0 l h
-effect_short w d t (call.Reset i a) h l = changed_short (λ _. begun a.0) (λ x s. lit≤ tt) d.lists i.0 l h
-effect_short w d t (call.Execute q ls) h l = h l
-effect_short w d t (call.Signal q f v) h l = h l
-effect_short w d t (call.HostSignal f v) h l = h l
-effect_short w d t (call.HostWait f v) h l = h l
-effect_short w d t (call.Value f) h l = h l
-effect_short w d t (call.Write b offset ws) h l = h l
-effect_short w d t (call.Read b offset bytes) h l = h l
+change_short : (w : World) (k : Change) (x : Listed) → Short x → Short (changed w k x)
+change_short w (records what) x h = recorded_short w what x h
+change_short w closes x h = h
+change_short w fails x h = h
+change_short w (begins a) x h = lit≤ tt
 
-failed_short : (b : Bool) (i : ℕ) (d : Desk) → ((k : ℕ) → Short (list_of d.lists k)) → (l : ℕ) → Short (list_of (failed_if b i d).lists l)
-failed_short true i d h l = changed_short failed (λ x s. s) d.lists i l h
-failed_short false i d h l = h l
-
-refused_short : (d : Desk) (c : Call) → ((k : ℕ) → Short (list_of d.lists k)) → (l : ℕ) → Short (list_of (after_refused d c).lists l)
-refused_short d (call.Recording i what) h l = h l
-refused_short d (call.Close i) h l = failed_short (is_recording (list_of d.lists i.0)) i.0 d h l
-refused_short d (call.Reset i a) h l = h l
-refused_short d (call.Execute q ls) h l = h l
-refused_short d (call.Signal q f v) h l = h l
-refused_short d (call.HostSignal f v) h l = h l
-refused_short d (call.HostWait f v) h l = h l
-refused_short d (call.Value f) h l = h l
-refused_short d (call.Write b offset ws) h l = h l
-refused_short d (call.Read b offset bytes) h l = h l
-
-either_short : (r : Option Hresult) (good bad : Desk) (l : ℕ) → Short (list_of good.lists l) → Short (list_of bad.lists l) → Short (list_of (desk_or r good bad).lists l)
-either_short None good bad l g b = g
-either_short (Some e) good bad l g b = b
+changes_short : (w : World) (o : Option (At Change)) (lists : List Listed) → ((k : ℕ) → Short (list_of lists k)) → (l : ℕ) → Short (list_of (changed_by (changed w) o lists) l)
+changes_short w None lists h l = h l
+changes_short w (Some x) lists h l = changed_short (changed w x.what) (change_short w x.what) lists x.place l h
 
 pub operation_lists : (d : Desk) (o : Option Operation) → (desk_after_operation d o).lists ≡ d.lists
 operation_lists d None = refl
@@ -88,8 +66,7 @@ operation_lists d (Some (operation.Execute commands)) = refl
 operation_lists d (Some (operation.Signal f v)) = refl
 
 desk_short : (w : World) (d : Desk) (e : Event) → ((k : ℕ) → Short (list_of d.lists k)) → (l : ℕ) → Short (list_of (desk_after w d e).lists l)
-desk_short w d (event.Call t c r) h l =
-    either_short (refusal w d c) (effect w d t.0 c) (after_refused d c) l (effect_short w d t.0 c h l) (refused_short d c h l)
+desk_short w d (event.Call t c r) h l = changes_short w (done w d.lists c).list d.lists h l
 desk_short w d (event.Awake t) h l = h l
 desk_short w d (event.Queue q) h l = subst (λ lists. Short (list_of lists l)) (sym (operation_lists (dropped d q.0) (head_of d q.0))) (h l)
 

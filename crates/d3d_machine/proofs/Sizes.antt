@@ -1,11 +1,9 @@
 -- The number of words of each resource never changes.
 use Rattle.std.proofs.Common.{ℕ, zero, suc, ◌≡◌, ◌∙◌, ap, refl, List, [], ◌∷◌, length, map, Some, None, Option, ◌/◌}
 use Rattle.dx_base.specs.Lists.{changed_at, put, range_of}
-use Rattle.dx_base.specs.declared.hresult.Hresult.{Hresult}
+use Rattle.dx_base.specs.Effects.{At}
 use Rattle.dx_base.proofs.Lists.{map_changed, length_put}
 use Rattle.d3d_machine.specs.declared.world.World.{World}
-use Rattle.d3d_machine.specs.declared.calls.Call.{Call}
-use Rattle.d3d_machine.specs.declared.calls.Call.TheVariants as call
 use Rattle.d3d_machine.specs.declared.calls.Record.{Record}
 use Rattle.d3d_machine.specs.declared.calls.Record.TheVariants.{Copy}
 use Rattle.d3d_machine.specs.declared.events.Command.{Command}
@@ -14,8 +12,7 @@ use Rattle.d3d_machine.specs.declared.events.Operation.TheVariants as operation
 use Rattle.d3d_machine.specs.declared.events.Event.{Event}
 use Rattle.d3d_machine.specs.declared.events.Event.TheVariants as event
 use Rattle.d3d_machine.specs.State.{State, first_state, words_at, zeros}
-use Rattle.d3d_machine.specs.Replies.{refusal}
-use Rattle.d3d_machine.specs.Effects.{after_record, after_commands, written, memory_or, memory_after_operation, memory_after, head_of, after, after_all}
+use Rattle.d3d_machine.specs.Effects.{after_record, after_commands, done, memory_by, memory_after_operation, memory_after, head_of, after, after_all}
 use Rattle.d3d_machine.specs.Play.{state_after}
 
 unchanged : (k : ℕ) (ns : List ℕ) → changed_at (λ n. n) k ns ≡ ns
@@ -34,22 +31,10 @@ sizes_commands : (cs : List Command) (m : List (List ℕ)) → map length (after
 sizes_commands [] m = refl
 sizes_commands (c ∷ cs) m = sizes_commands cs (after_record c.what m) ∙ sizes_record c.what m
 
-pub sizes_written : (c : Call) (m : List (List ℕ)) → map length (written c m) ≡ map length m
-sizes_written (call.Recording l what) m = refl
-sizes_written (call.Close l) m = refl
-sizes_written (call.Reset l a) m = refl
-sizes_written (call.Execute q ls) m = refl
-sizes_written (call.Signal q f v) m = refl
-sizes_written (call.HostSignal f v) m = refl
-sizes_written (call.HostWait f v) m = refl
-sizes_written (call.Value f) m = refl
-sizes_written (call.Write b offset ws) m = sizes_put (offset / 4) ws b.0 m
-sizes_written (call.Read b offset n) m = refl
-
--- after a call, refused or not
-pub sizes_or : (r : Option Hresult) (c : Call) (m : List (List ℕ)) → map length (memory_or r (written c m) m) ≡ map length m
-sizes_or None c m = sizes_written c m
-sizes_or (Some e) c m = refl
+-- after words were stored
+pub sizes_stored : (o : Option (At (ℕ × List ℕ))) (m : List (List ℕ)) → map length (memory_by o m) ≡ map length m
+sizes_stored None m = refl
+sizes_stored (Some x) m = sizes_put x.what.0 x.what.1 x.place m
 
 sizes_operation : (o : Option Operation) (m : List (List ℕ)) → map length (memory_after_operation m o) ≡ map length m
 sizes_operation None m = refl
@@ -57,7 +42,7 @@ sizes_operation (Some (operation.Execute cs)) m = sizes_commands cs m
 sizes_operation (Some (operation.Signal f v)) m = refl
 
 sizes_event : (w : World) (s : State) (e : Event) → map length (memory_after w s e) ≡ map length s.memory
-sizes_event w s (event.Call t c r) = sizes_or (refusal w s.desk c) c s.memory
+sizes_event w s (event.Call t c r) = sizes_stored (done w s.desk.lists c).stores s.memory
 sizes_event w s (event.Awake t) = refl
 sizes_event w s (event.Queue q) = sizes_operation (head_of s.desk q.0) s.memory
 

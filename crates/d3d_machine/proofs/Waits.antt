@@ -4,7 +4,7 @@ use Rattle.std.specs.Option.{option_map}
 use Rattle.std.proofs.lemmas.Bool.{cases_eq}
 use Rattle.std.proofs.lemmas.Bool.Decides.{nat_tests}
 use Rattle.dx_base.specs.Lists.{changed_at}
-use Rattle.dx_base.specs.declared.hresult.Hresult.{Hresult}
+use Rattle.dx_base.specs.Effects.{At}
 use Rattle.dx_base.specs.declared.ids.ThreadId.{ThreadId}
 use Rattle.dx_base.specs.declared.ids.FenceId.{FenceId}
 use Rattle.d3d_machine.specs.declared.world.World.{World}
@@ -16,15 +16,15 @@ use Rattle.d3d_machine.specs.declared.events.Operation.TheVariants as operation
 use Rattle.d3d_machine.specs.declared.events.Event.{Event}
 use Rattle.d3d_machine.specs.declared.events.Event.TheVariants as event
 use Rattle.d3d_machine.specs.State.{Waiting, Desk, State, Place, place_of, value_of}
-use Rattle.d3d_machine.specs.Replies.{refusal}
-use Rattle.d3d_machine.specs.Effects.{effect, after_refused, desk_or, marked_wait, marked_option, marked_place, dropped, desk_after_operation, head_of, desk_after_call, after, begins_wait}
+use Rattle.d3d_machine.specs.CallEffects.{here_of}
+use Rattle.d3d_machine.specs.Effects.{done, marked_places, waiting_places, marked_wait, marked_option, marked_place, dropped, desk_after_operation, head_of, desk_after_call, after, begins_wait}
 use Rattle.d3d_machine.specs.Play.{May, SameButWords, state_after}
-use Rattle.d3d_machine.specs.Fences.{update_of_operation, update_of_call, update_of, applied_updates, is_met}
+use Rattle.d3d_machine.specs.Fences.{operation_sets, update_of, applied_updates, is_met}
 use Rattle.d3d_machine.specs.Marks.{waiting_at, marked_by, current_update, is_awake_of}
 use Rattle.d3d_machine.specs.Shape.{HasShape}
 use Rattle.d3d_machine.proofs.Shape.{run_has_shape}
 use Rattle.d3d_machine.proofs.Runs.{state_after_append}
-use Rattle.d3d_machine.proofs.Places.{place_in, one_more, changed_here, changed_other, kept_at, refused_threads}
+use Rattle.d3d_machine.proofs.Places.{place_in, one_more, changed_here, changed_other, kept_at}
 use Rattle.d3d_machine.proofs.Marks.{is_met_more, applied_append, met_at_call}
 
 or_false : (b : Bool) → (b || false) ≡ b
@@ -58,36 +58,25 @@ nothing_marks : (o : Option Waiting) → o ≡ option_map (λ x. marked_by x [])
 nothing_marks None = refl
 nothing_marks (Some x) = ap (λ y. Some y) (sym (marked_by_none x))
 
-either_place : (r : Option Hresult) (good bad : Desk) (t : ℕ) (p : Place) → place_of good t ≡ p → place_of bad t ≡ p → place_of (desk_or r good bad) t ≡ p
-either_place None good bad t p g b = g
-either_place (Some e) good bad t p g b = b
+pub waits_marked : (o : Option (At ℕ)) (ps : List Place) (t : ℕ) →
+    (place_in (marked_places o ps) t).waits ≡ option_map (λ x. marked_by x (here_of x.fence o)) (place_in ps t).waits
+waits_marked None ps t = nothing_marks (place_in ps t).waits
+waits_marked (Some x) ps t = waits_mapped x.place x.what ps t ∙ signal_marks_all (place_in ps t).waits x.place x.what
 
--- a call whose effect leaves the place of another thread leaves its wait
-quiet_other : (w : World) (d : Desk) (u : ℕ) (c : Call) (t : ℕ) → u ≢ t → place_of (effect w d u c) t ≡ place_of d t →
-    (place_of (desk_after_call w d u c) t).waits ≡ option_map (λ x. marked_by x []) (place_of d t).waits
-quiet_other w d u c t n quiet =
-    ap (λ p. p.waits) (changed_other one_more (desk_or (refusal w d c) (effect w d u c) (after_refused d c)).threads u t n
-    ∙ either_place (refusal w d c) (effect w d u c) (after_refused d c) t (place_of d t) quiet (ap (λ ps. place_in ps t) (refused_threads d c)))
-    ∙ nothing_marks (place_of d t).waits
+waiting_other : (d : Desk) (u : ℕ) (o : Option (At ℕ)) (ps : List Place) (t : ℕ) → u ≢ t → place_in (waiting_places d u o ps) t ≡ place_in ps t
+waiting_other d u None ps t n = refl
+waiting_other d u (Some x) ps t n = changed_other (begins_wait (value_of d x.place) x.place x.what) ps u t n
 
 -- a call marks the wait of another thread by its update, where it is one
 pub other_call : (w : World) (d : Desk) (u : ℕ) (c : Call) (t : ℕ) → u ≢ t →
-    (place_of (desk_after_call w d u c) t).waits ≡ option_map (λ x. marked_by x (update_of_call x.fence c)) (place_of d t).waits
-other_call w d u (call.Recording l what) t n = quiet_other w d u (call.Recording l what) t n refl
-other_call w d u (call.Close l) t n = quiet_other w d u (call.Close l) t n refl
-other_call w d u (call.Reset l a) t n = quiet_other w d u (call.Reset l a) t n refl
-other_call w d u (call.Execute q ls) t n = quiet_other w d u (call.Execute q ls) t n refl
-other_call w d u (call.Signal q f v) t n = quiet_other w d u (call.Signal q f v) t n refl
-other_call w d u (call.HostSignal f v) t n =
-    ap (λ p. p.waits) (changed_other one_more (map (marked_place f.0 v) d.threads) u t n)
-    ∙ waits_mapped f.0 v d.threads t ∙ signal_marks_all (place_of d t).waits f.0 v
-other_call w d u (call.HostWait f v) t n = quiet_other w d u (call.HostWait f v) t n (changed_other (begins_wait (value_of d f.0) f.0 v) d.threads u t n)
-other_call w d u (call.Value f) t n = quiet_other w d u (call.Value f) t n refl
-other_call w d u (call.Write b offset ws) t n = quiet_other w d u (call.Write b offset ws) t n refl
-other_call w d u (call.Read b offset bytes) t n = quiet_other w d u (call.Read b offset bytes) t n refl
+    (place_of (desk_after_call w d u c) t).waits ≡ option_map (λ x. marked_by x (here_of x.fence (done w d.lists c).sets)) (place_of d t).waits
+other_call w d u c t n =
+    let ps : List Place = marked_places (done w d.lists c).sets d.threads in
+    ap (λ p. p.waits) (changed_other one_more (waiting_places d u (done w d.lists c).waits ps) u t n ∙ waiting_other d u (done w d.lists c).waits ps t n)
+    ∙ waits_marked (done w d.lists c).sets d.threads t
 
 operation_marks : (d : Desk) (o : Option Operation) (t : ℕ) (x : Waiting) → (place_of d t).waits ≡ Some x →
-    (place_of (desk_after_operation d o) t).waits ≡ Some (marked_by x (update_of_operation x.fence o))
+    (place_of (desk_after_operation d o) t).waits ≡ Some (marked_by x (here_of x.fence (operation_sets o)))
 operation_marks d None t x h = h ∙ ap (λ y. Some y) (sym (marked_by_none x))
 operation_marks d (Some (operation.Execute commands)) t x h = h ∙ ap (λ y. Some y) (sym (marked_by_none x))
 operation_marks d (Some (operation.Signal g v)) t x h =
@@ -95,10 +84,10 @@ operation_marks d (Some (operation.Signal g v)) t x h =
 
 -- a wait that goes on is marked by the updates of its fence
 pub waits_on : (Same : Reply → Reply → Type 0) (w : World) (s : State) (e : Event) (t : ℕ) (x : Waiting) → (place_of s.desk t).waits ≡ Some x →
-    May Same w s e → is_awake_of t e ≡ false → (place_of (after w s e).desk t).waits ≡ Some (marked_by x (update_of s.desk x.fence e))
+    May Same w s e → is_awake_of t e ≡ false → (place_of (after w s e).desk t).waits ≡ Some (marked_by x (update_of w s.desk x.fence e))
 waits_on Same w s (event.Call u c r) t x h m sleeps =
     let apart : u.0 ≢ t = λ e. let none : (place_of s.desk t).waits ≡ None = subst (λ k. (place_of s.desk k).waits ≡ None) e m.0 in cc in
-    other_call w s.desk u.0 c t apart ∙ ap (option_map (λ y. marked_by y (update_of_call y.fence c))) h
+    other_call w s.desk u.0 c t apart ∙ ap (option_map (λ y. marked_by y (here_of y.fence (done w s.desk.lists c).sets))) h
 waits_on Same w s (event.Awake u) t x h m sleeps =
     let apart : u.0 ≢ t = grind (arith, nat_tests) in
     ap (λ p. p.waits) (changed_other (λ p. record p { waits = None }) s.desk.threads u.0 t apart) ∙ h ∙ ap (λ y. Some y) (sym (marked_by_none x))
@@ -113,10 +102,10 @@ waits_begin w s u f v r h =
     ∙ ap (λ p. p.waits) (changed_here (begins_wait (value_of s.desk f.0) f.0 v) s.desk.threads u.0 h)
 
 wait_more : (w : World) (h : List Event) (e : Event) (f v since : ℕ) → since ≤ length (applied_updates w h f) →
-    marked_by (waiting_at w h f v since) (update_of (state_after w h).desk f e) ≡ waiting_at w (h ++ e ∷ []) f v since
+    marked_by (waiting_at w h f v since) (update_of w (state_after w h).desk f e) ≡ waiting_at w (h ++ e ∷ []) f v since
 wait_more w h e f v since l =
     ap (λ b. record { fence = f; value = v; marked = b })
-    (sym (ap (λ us. is_met us since v) (applied_append w h e f) ∙ is_met_more (applied_updates w h f) (update_of (state_after w h).desk f e) since v l))
+    (sym (ap (λ us. is_met us since v) (applied_append w h e f) ∙ is_met_more (applied_updates w h f) (update_of w (state_after w h).desk f e) since v l))
 
 -- at the call: the wait is marked where the update that is current then suffices
 pub wait_begins : (w : World) (h : List Event) (u : ThreadId) (f : FenceId) (v : ℕ) (r : Reply) → u.0 < length w.scripts → f.0 < length w.fences →

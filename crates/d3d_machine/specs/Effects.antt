@@ -1,10 +1,10 @@
 -- The state after an event. Every event has an effect here; whether it may come stands apart.
 use Rattle.std.specs.Prelude.{ℕ, ◌+◌, ◌/◌, ◌==◌, ◌&&◌, ◌||◌, nat_le, List, [], ◌∷◌, ◌++◌, map, slice_get, drop, Option, Some, None, Bool, true, false}
 use Rattle.dx_base.specs.Lists.{changed_at, put, range_of}
+use Rattle.dx_base.specs.Effects.{At, at, changed_by, unless}
 use Rattle.dx_base.specs.declared.hresult.Hresult.{Hresult}
 use Rattle.d3d_machine.specs.declared.world.World.{World}
 use Rattle.d3d_machine.specs.declared.calls.Call.{Call}
-use Rattle.d3d_machine.specs.declared.calls.Call.TheVariants as call
 use Rattle.d3d_machine.specs.declared.calls.Record.{Record}
 use Rattle.d3d_machine.specs.declared.calls.Record.TheVariants.{Copy}
 use Rattle.d3d_machine.specs.declared.events.Listed.{Listed}
@@ -15,7 +15,8 @@ use Rattle.d3d_machine.specs.declared.events.Operation.TheVariants as operation
 use Rattle.d3d_machine.specs.declared.events.Event.{Event}
 use Rattle.d3d_machine.specs.declared.events.Event.TheVariants as event
 use Rattle.d3d_machine.specs.State.{Waiting, Place, Desk, State, list_of, called_of, value_of, words_at, is_recording}
-use Rattle.d3d_machine.specs.Replies.{refusal, record_error}
+use Rattle.d3d_machine.specs.CallEffects.{Change, records, closes, fails, begins, Task, executes, signals, Does, does}
+use Rattle.d3d_machine.specs.Replies.{refusal_by, record_error}
 
 -- the memory after one command
 abbrev pub after_record : Record → List (List ℕ) → List (List ℕ)
@@ -77,39 +78,84 @@ marked_place f v p = record p { waits = marked_option f v p.waits }
 abbrev pub takes_value : ℕ → ℕ → Desk → Desk
 takes_value f v d = record d { fences = changed_at (λ _. v) f d.fences; threads = map (marked_place f v) d.threads }
 
--- the desk after a call that is not refused, but for the count of the thread's calls
-abbrev pub effect : World → Desk → ℕ → Call → Desk
-effect w d t (call.Recording l what) = record d { lists = changed_at (recorded w what) l.0 d.lists }
-effect w d t (call.Close l) = record d { lists = changed_at closed l.0 d.lists }
-effect w d t (call.Reset l a) = record d { lists = changed_at (λ _. begun a.0) l.0 d.lists }
-effect w d t (call.Execute q ls) = pushed d q.0 (operation.Execute (gathered d.lists (map (λ l. l.0) ls)))
-effect w d t (call.Signal q f v) = pushed d q.0 (operation.Signal f v)
-effect w d t (call.HostSignal f v) = takes_value f.0 v d
-effect w d t (call.HostWait f v) = record d { threads = changed_at (begins_wait (value_of d f.0) f.0 v) t d.threads }
-effect w d t (call.Value f) = d
-effect w d t (call.Write b offset ws) = d
-effect w d t (call.Read b offset bytes) = d
+-- a list after a change
+abbrev pub changed : World → Change → Listed → Listed
+changed w (records what) = recorded w what
+changed w closes = closed
+changed w fails = failed
+changed w (begins a) = λ _. begun a
 
-abbrev pub failed_if : Bool → ℕ → Desk → Desk
-failed_if true l d = record d { lists = changed_at failed l d.lists }
-failed_if false l d = d
+-- the operation that a task is
+abbrev pub operation_of : List Listed → Task → Operation
+operation_of lists (executes ls) = operation.Execute (gathered lists (map (λ l. l.0) ls))
+operation_of lists (signals f v) = operation.Signal f v
 
--- the desk after a refused call: only a list whose close is refused for its error changes
-abbrev pub after_refused : Desk → Call → Desk
-after_refused d (call.Recording l what) = d
-after_refused d (call.Close l) = failed_if (is_recording (list_of d.lists l.0)) l.0 d
-after_refused d (call.Reset l a) = d
-after_refused d (call.Execute q ls) = d
-after_refused d (call.Signal q f v) = d
-after_refused d (call.HostSignal f v) = d
-after_refused d (call.HostWait f v) = d
-after_refused d (call.Value f) = d
-after_refused d (call.Write b offset ws) = d
-after_refused d (call.Read b offset bytes) = d
+-- the operation that a queue is given
+abbrev pub operation_given : List Listed → Option (At Task) → Option (At Operation)
+operation_given lists None = None
+operation_given lists (Some x) = at x.place (operation_of lists x.what)
+
+-- one more, behind the others
+abbrev pub with_one : {A : Type 0} → A → List A → List A
+with_one x xs = xs ++ x ∷ []
+
+abbrev pub fails_if : Bool → ℕ → Option (At Change)
+fails_if true l = at l fails
+fails_if false l = None
+
+-- the change of a list by a call that may be refused, from the list whose recording it ends and its change of a list
+abbrev pub change_unless : List Listed → Option ℕ → Option (At Change) → Option Hresult → Option (At Change)
+change_unless lists None x r = unless x r
+change_unless lists (Some l) x None = x
+change_unless lists (Some l) x (Some e) = fails_if (is_recording (list_of lists l)) l
+
+-- what is left of what a call does where it may be refused
+abbrev pub done_unless : List Listed → Does → Option Hresult → Does
+done_unless lists x r = record {
+  list = change_unless lists x.ends x.list r;
+  gives = unless x.gives r;
+  sets = unless x.sets r;
+  waits = unless x.waits r;
+  stores = unless x.stores r;
+  reads = unless x.reads r;
+  asks = unless x.asks r;
+  ends = None;
+}
+
+-- what a call does, refused or not
+abbrev pub done : World → List Listed → Call → Does
+done w lists c = done_unless lists (does c) (refusal_by w lists c)
 
 abbrev pub desk_or : Option Hresult → Desk → Desk → Desk
 desk_or None good bad = good
 desk_or (Some e) good bad = bad
+
+abbrev pub memory_or : Option Hresult → List (List ℕ) → List (List ℕ) → List (List ℕ)
+memory_or None good bad = good
+memory_or (Some e) good bad = bad
+
+-- the places of threads when a fence takes a value
+abbrev pub marked_places : Option (At ℕ) → List Place → List Place
+marked_places None ps = ps
+marked_places (Some x) ps = map (marked_place x.place x.what) ps
+
+-- the places of threads when a thread begins to wait
+abbrev pub waiting_places : Desk → ℕ → Option (At ℕ) → List Place → List Place
+waiting_places d t None ps = ps
+waiting_places d t (Some x) ps = changed_at (begins_wait (value_of d x.place) x.place x.what) t ps
+
+-- the desk after what a thread's call does, but for the count of its calls
+abbrev pub desk_by : World → Desk → ℕ → Does → Desk
+desk_by w d t x = record {
+  fences = changed_by (λ v _. v) x.sets d.fences;
+  called = changed_by with_one (operation_given d.lists x.gives) d.called;
+  lists = changed_by (changed w) x.list d.lists;
+  threads = waiting_places d t x.waits (marked_places x.sets d.threads);
+}
+
+-- the memory after words were stored
+abbrev pub memory_by : Option (At (ℕ × List ℕ)) → List (List ℕ) → List (List ℕ)
+memory_by x m = changed_by (λ p. put p.0 p.1) x m
 
 -- a thread's place, one call later
 abbrev pub one_call_more : Place → Place
@@ -121,7 +167,7 @@ counted t d = record d { threads = changed_at one_call_more t d.threads }
 
 -- the desk after a call
 abbrev pub desk_after_call : World → Desk → ℕ → Call → Desk
-desk_after_call w d t c = counted t (desk_or (refusal w d c) (effect w d t c) (after_refused d c))
+desk_after_call w d t c = counted t (desk_by w d t (done w d.lists c))
 
 -- the oldest operation of a queue has left it
 abbrev pub dropped : Desk → ℕ → Desk
@@ -145,23 +191,6 @@ desk_after w d (event.Call t c r) = desk_after_call w d t.0 c
 desk_after w d (event.Awake t) = woken t.0 d
 desk_after w d (event.Queue q) = desk_after_operation (dropped d q.0) (head_of d q.0)
 
--- the memory after a host write
-abbrev pub written : Call → List (List ℕ) → List (List ℕ)
-written (call.Recording l what) m = m
-written (call.Close l) m = m
-written (call.Reset l a) m = m
-written (call.Execute q ls) m = m
-written (call.Signal q f v) m = m
-written (call.HostSignal f v) m = m
-written (call.HostWait f v) m = m
-written (call.Value f) m = m
-written (call.Write b offset ws) m = changed_at (put (offset / 4) ws) b.0 m
-written (call.Read b offset bytes) m = m
-
-abbrev pub memory_or : Option Hresult → List (List ℕ) → List (List ℕ) → List (List ℕ)
-memory_or None good bad = good
-memory_or (Some e) good bad = bad
-
 -- the memory after an operation: an execute applies its commands in order at once
 abbrev pub memory_after_operation : List (List ℕ) → Option Operation → List (List ℕ)
 memory_after_operation m None = m
@@ -169,7 +198,7 @@ memory_after_operation m (Some (operation.Execute commands)) = after_commands co
 memory_after_operation m (Some (operation.Signal f v)) = m
 
 abbrev pub memory_after : World → State → Event → List (List ℕ)
-memory_after w s (event.Call t c r) = memory_or (refusal w s.desk c) (written c s.memory) s.memory
+memory_after w s (event.Call t c r) = memory_by (done w s.desk.lists c).stores s.memory
 memory_after w s (event.Awake t) = s.memory
 memory_after w s (event.Queue q) = memory_after_operation s.memory (head_of s.desk q.0)
 

@@ -1,44 +1,35 @@
 -- The updates of a fence.
 use Rattle.std.specs.Prelude.{ℕ, ◌==◌, nat_le, List, [], ◌∷◌, ◌++◌, drop, Option, Some, None, Bool, if◌then◌else◌}
 use Rattle.std.specs.List.{list_any}
+use Rattle.dx_base.specs.Effects.{At, at}
 use Rattle.d3d_machine.specs.declared.world.World.{World}
-use Rattle.d3d_machine.specs.declared.calls.Call.{Call}
-use Rattle.d3d_machine.specs.declared.calls.Call.TheVariants as call
 use Rattle.d3d_machine.specs.declared.events.Operation.{Operation}
 use Rattle.d3d_machine.specs.declared.events.Operation.TheVariants as operation
 use Rattle.d3d_machine.specs.declared.events.Event.{Event}
 use Rattle.d3d_machine.specs.declared.events.Event.TheVariants as event
+use Rattle.d3d_machine.specs.CallEffects.{here_of}
 use Rattle.d3d_machine.specs.State.{Desk, State, first_state, value_of}
-use Rattle.d3d_machine.specs.Effects.{after, head_of}
+use Rattle.d3d_machine.specs.Effects.{done, after, head_of}
 
 -- the value that an operation gives a fence, where it gives one: a signal does
-abbrev pub update_of_operation : ℕ → Option Operation → List ℕ
-update_of_operation f None = []
-update_of_operation f (Some (operation.Execute commands)) = []
-update_of_operation f (Some (operation.Signal g v)) = if (g.0 == f) then v ∷ [] else []
-
--- the value that a call gives a fence, where it gives one: a host signal does
-abbrev pub update_of_call : ℕ → Call → List ℕ
-update_of_call f (call.Recording l what) = []
-update_of_call f (call.Close l) = []
-update_of_call f (call.Reset l a) = []
-update_of_call f (call.Execute q ls) = []
-update_of_call f (call.Signal q g v) = []
-update_of_call f (call.HostSignal g v) = if (g.0 == f) then v ∷ [] else []
-update_of_call f (call.HostWait g v) = []
-update_of_call f (call.Value g) = []
-update_of_call f (call.Write b offset ws) = []
-update_of_call f (call.Read b offset bytes) = []
+abbrev pub operation_sets : Option Operation → Option (At ℕ)
+operation_sets None = None
+operation_sets (Some (operation.Execute commands)) = None
+operation_sets (Some (operation.Signal g v)) = at g.0 v
 
 -- the value that an event gives a fence, where it gives one: a host signal and a completed signal do
-abbrev pub update_of : Desk → ℕ → Event → List ℕ
-update_of d f (event.Call t c r) = update_of_call f c
-update_of d f (event.Awake t) = []
-update_of d f (event.Queue q) = update_of_operation f (head_of d q.0)
+abbrev pub event_sets : World → Desk → Event → Option (At ℕ)
+event_sets w d (event.Call t c r) = (done w d.lists c).sets
+event_sets w d (event.Awake t) = None
+event_sets w d (event.Queue q) = operation_sets (head_of d q.0)
+
+-- the value that an event gives that fence, where it gives it one
+abbrev pub update_of : World → Desk → ℕ → Event → List ℕ
+update_of w d f e = here_of f (event_sets w d e)
 
 abbrev pub updates_from : World → State → ℕ → List Event → List ℕ
 updates_from w s f [] = []
-updates_from w s f (e ∷ h) = update_of s.desk f e ++ updates_from w (after w s e) f h
+updates_from w s f (e ∷ h) = update_of w s.desk f e ++ updates_from w (after w s e) f h
 
 -- the applied updates of a fence: its starting value, then host signals and completed signals in order of the
 -- history

@@ -1,18 +1,18 @@
 -- Laws of the machine: of its steps, of refused calls, of scripts, and of waits.
-use Rattle.std.specs.Prelude.{ℕ, ◌≡◌, ◌++◌, ◌∷◌, [], List, Some}
+use Rattle.std.specs.Prelude.{ℕ, ◌≡◌, ◌++◌, ◌∷◌, [], List, Option, Some, None}
 use Rattle.dx_base.specs.Lists.{changed_at}
 use Rattle.dx_base.specs.declared.hresult.Hresult.{Hresult}
 use Rattle.dx_base.specs.declared.ids.QueueId.{QueueId}
 use Rattle.dx_base.specs.declared.ids.ThreadId.{ThreadId}
 use Rattle.d3d_machine.specs.declared.world.World.{World}
 use Rattle.d3d_machine.specs.declared.calls.Call.{Call}
-use Rattle.d3d_machine.specs.declared.calls.Call.TheVariants as call
 use Rattle.d3d_machine.specs.declared.calls.Reply.{Reply}
 use Rattle.d3d_machine.specs.declared.calls.Reply.TheVariants as reply
 use Rattle.d3d_machine.specs.declared.events.Event.{Event}
 use Rattle.d3d_machine.specs.declared.events.Event.TheVariants as event
 use Rattle.d3d_machine.specs.declared.events.Listed.{Listed}
 use Rattle.d3d_machine.specs.World.{IsWorld}
+use Rattle.d3d_machine.specs.CallEffects.{does}
 use Rattle.d3d_machine.specs.State.{State, Waiting, list_of, place_of, is_recording}
 use Rattle.d3d_machine.specs.Effects.{one_call_more}
 use Rattle.d3d_machine.specs.Lists.{failed_lists_if}
@@ -28,18 +28,13 @@ pub record StepsMay : Type 0 where
   pub awake : (w : World) (s : State) (t : ThreadId) → May SameReply w s (event.Awake t) → thread_step w s t ≡ Some (event.Awake t)
   pub completion : (w : World) (s : State) (q : QueueId) → May SameReply w s (event.Queue q) → queue_step s q ≡ Some (event.Queue q)
 
+abbrev pub failed_lists_by : List Listed → Option ℕ → List Listed
+failed_lists_by lists None = lists
+failed_lists_by lists (Some l) = failed_lists_if (is_recording (list_of lists l)) l lists
+
 -- the lists after a refused call: they stay, but that a recording list whose close is refused has failed
 abbrev pub lists_after_refused : List Listed → Call → List Listed
-lists_after_refused lists (call.Close l) = failed_lists_if (is_recording (list_of lists l.0)) l.0 lists
-lists_after_refused lists (call.Recording l what) = lists
-lists_after_refused lists (call.Reset l a) = lists
-lists_after_refused lists (call.Execute q ls) = lists
-lists_after_refused lists (call.Signal q f v) = lists
-lists_after_refused lists (call.HostSignal f v) = lists
-lists_after_refused lists (call.HostWait f v) = lists
-lists_after_refused lists (call.Value f) = lists
-lists_after_refused lists (call.Write b offset ws) = lists
-lists_after_refused lists (call.Read b offset bytes) = lists
+lists_after_refused lists c = failed_lists_by lists (does c).ends
 
 -- a call of a thread had no effect but its reply: memory, fences and queues are as before, its thread has made one call
 -- more, and the lists are those after a refused call

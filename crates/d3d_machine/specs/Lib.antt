@@ -1,5 +1,6 @@
 pub mod World
 pub mod State
+pub mod CallEffects
 pub mod Replies
 pub mod Effects
 pub mod Play

@@ -1,39 +1,23 @@
 -- The operations that calls give a queue, and how many of them have completed.
-use Rattle.std.specs.Prelude.{ℕ, ◌==◌, ◌+◌, List, [], ◌∷◌, ◌++◌, map, Option, Some, None, if◌then◌else◌}
-use Rattle.dx_base.specs.declared.hresult.Hresult.{Hresult}
+use Rattle.std.specs.Prelude.{ℕ, ◌==◌, ◌+◌, List, [], ◌∷◌, ◌++◌, Option, Some, None, if◌then◌else◌}
+use Rattle.dx_base.specs.Effects.{At}
 use Rattle.d3d_machine.specs.declared.world.World.{World}
-use Rattle.d3d_machine.specs.declared.calls.Call.{Call}
-use Rattle.d3d_machine.specs.declared.calls.Call.TheVariants as call
 use Rattle.d3d_machine.specs.declared.events.Operation.{Operation}
-use Rattle.d3d_machine.specs.declared.events.Operation.TheVariants as operation
 use Rattle.d3d_machine.specs.declared.events.Event.{Event}
 use Rattle.d3d_machine.specs.declared.events.Event.TheVariants as event
 use Rattle.d3d_machine.specs.State.{Desk, State, first_state}
-use Rattle.d3d_machine.specs.Replies.{refusal}
-use Rattle.d3d_machine.specs.Effects.{after, gathered}
+use Rattle.d3d_machine.specs.CallEffects.{here_of}
+use Rattle.d3d_machine.specs.Effects.{operation_given, done, after}
 
--- the operation that a call which is not refused gives a queue
-abbrev pub operation_of : Desk → ℕ → Call → List Operation
-operation_of d q (call.Recording l what) = []
-operation_of d q (call.Close l) = []
-operation_of d q (call.Reset l a) = []
-operation_of d q (call.Execute p ls) = if (p.0 == q) then operation.Execute (gathered d.lists (map (λ l. l.0) ls)) ∷ [] else []
-operation_of d q (call.Signal p f v) = if (p.0 == q) then operation.Signal f v ∷ [] else []
-operation_of d q (call.HostSignal f v) = []
-operation_of d q (call.HostWait f v) = []
-operation_of d q (call.Value f) = []
-operation_of d q (call.Write b offset ws) = []
-operation_of d q (call.Read b offset bytes) = []
+-- the operation that an event gives a queue, where it gives one: a call that is not refused does
+abbrev pub event_gives : World → Desk → Event → Option (At Operation)
+event_gives w d (event.Call t c r) = operation_given d.lists (done w d.lists c).gives
+event_gives w d (event.Awake t) = None
+event_gives w d (event.Queue q) = None
 
-abbrev pub unless_refused : Option Hresult → List Operation → List Operation
-unless_refused None os = os
-unless_refused (Some e) os = []
-
--- the operation that an event gives a queue, where it gives one
+-- the operation that an event gives that queue, where it gives it one
 abbrev pub called_by : World → Desk → ℕ → Event → List Operation
-called_by w d q (event.Call t c r) = unless_refused (refusal w d c) (operation_of d q c)
-called_by w d q (event.Awake t) = []
-called_by w d q (event.Queue p) = []
+called_by w d q e = here_of q (event_gives w d e)
 
 abbrev pub operations_from : World → State → ℕ → List Event → List Operation
 operations_from w s q [] = []

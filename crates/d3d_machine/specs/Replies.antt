@@ -2,6 +2,7 @@
 use Rattle.std.specs.Prelude.{ℕ, ◌*◌, ◌/◌, ◌==◌, ◌&&◌, ◌||◌, not, nat_le, List, length, slice_get, Option, Some, None, Bool, true, false, is_some}
 use Rattle.std.specs.List.{list_all, list_any}
 use Rattle.dx_base.specs.Lists.{range_of}
+use Rattle.dx_base.specs.Effects.{At}
 use Rattle.dx_base.specs.declared.hresult.Hresult.{Hresult}
 use Rattle.dx_base.specs.declared.hresult.Hresult.TheVariants.{InvalidArg, Fail}
 use Rattle.dx_base.specs.declared.kinds.ListType.{ListType}
@@ -15,6 +16,7 @@ use Rattle.d3d_machine.specs.declared.calls.Reply.{Reply}
 use Rattle.d3d_machine.specs.declared.calls.Reply.TheVariants as reply
 use Rattle.d3d_machine.specs.declared.events.Listed.{Listed}
 use Rattle.d3d_machine.specs.World.{resource_of, words_in, is_upload, is_readback, is_inside, overlaps}
+use Rattle.d3d_machine.specs.CallEffects.{does}
 use Rattle.d3d_machine.specs.State.{Desk, State, list_of, value_of, words_at, is_recording, is_closed_state}
 
 -- the error where the test holds, and otherwise the refusals behind it
@@ -66,35 +68,36 @@ record_error w x what = refuse_if (nat_le 1024 (length x.commands)) Fail (argume
 abbrev pub is_fit : World → List Listed → ℕ → ℕ → Bool
 is_fit w lists q l = is_closed_state (list_of lists l).state && same_types (slice_get w.lists l) (slice_get w.queues q)
 
+-- why a call is refused, where it is, by the lists
+abbrev pub refusal_by : World → List Listed → Call → Option Hresult
+refusal_by w lists (call.Recording l what) = refuse_if (not (is_recording (list_of lists l.0))) Fail None
+refusal_by w lists (call.Close l) = refuse_if (not (is_recording (list_of lists l.0))) Fail (list_of lists l.0).error
+refusal_by w lists (call.Reset l a) =
+    refuse_if (is_recording (list_of lists l.0)) Fail
+    (refuse_if (list_any (records_from a.0) lists || not (same_types (slice_get w.lists l.0) (slice_get w.allocators a.0))) InvalidArg None)
+refusal_by w lists (call.Execute q ls) = refuse_if (not (list_all (λ l. is_fit w lists q.0 l.0) ls)) Fail None
+refusal_by w lists (call.Signal q f v) = None
+refusal_by w lists (call.HostSignal f v) = None
+refusal_by w lists (call.HostWait f v) = None
+refusal_by w lists (call.Value f) = None
+refusal_by w lists (call.Write b offset ws) =
+    refuse_if (not (is_upload w b.0 && is_inside (words_in w b.0) offset (4 * length ws))) InvalidArg None
+refusal_by w lists (call.Read b offset bytes) =
+    refuse_if (not (is_readback w b.0 && (not (bytes == 0) && is_inside (words_in w b.0) offset bytes))) InvalidArg None
+
 -- why a call is refused, where it is
 abbrev pub refusal : World → Desk → Call → Option Hresult
-refusal w d (call.Recording l what) = refuse_if (not (is_recording (list_of d.lists l.0))) Fail None
-refusal w d (call.Close l) = refuse_if (not (is_recording (list_of d.lists l.0))) Fail (list_of d.lists l.0).error
-refusal w d (call.Reset l a) =
-    refuse_if (is_recording (list_of d.lists l.0)) Fail
-    (refuse_if (list_any (records_from a.0) d.lists || not (same_types (slice_get w.lists l.0) (slice_get w.allocators a.0))) InvalidArg None)
-refusal w d (call.Execute q ls) = refuse_if (not (list_all (λ l. is_fit w d.lists q.0 l.0) ls)) Fail None
-refusal w d (call.Signal q f v) = None
-refusal w d (call.HostSignal f v) = None
-refusal w d (call.HostWait f v) = None
-refusal w d (call.Value f) = None
-refusal w d (call.Write b offset ws) =
-    refuse_if (not (is_upload w b.0 && is_inside (words_in w b.0) offset (4 * length ws))) InvalidArg None
-refusal w d (call.Read b offset bytes) =
-    refuse_if (not (is_readback w b.0 && (not (bytes == 0) && is_inside (words_in w b.0) offset bytes))) InvalidArg None
+refusal w d c = refusal_by w d.lists c
+
+-- the value of a fence that is asked, the words that are read, or that the call is done
+abbrev pub answer : State → Option ℕ → Option (At (ℕ × ℕ)) → Reply
+answer s (Some f) r = reply.Value (value_of s.desk f)
+answer s None (Some r) = reply.Words (range_of r.what.0 r.what.1 (words_at s.memory r.place))
+answer s None None = reply.Done
 
 -- what a call answers that is not refused
 abbrev pub good_reply : State → Call → Reply
-good_reply s (call.Recording l what) = reply.Done
-good_reply s (call.Close l) = reply.Done
-good_reply s (call.Reset l a) = reply.Done
-good_reply s (call.Execute q ls) = reply.Done
-good_reply s (call.Signal q f v) = reply.Done
-good_reply s (call.HostSignal f v) = reply.Done
-good_reply s (call.HostWait f v) = reply.Done
-good_reply s (call.Value f) = reply.Value (value_of s.desk f.0)
-good_reply s (call.Write b offset ws) = reply.Done
-good_reply s (call.Read b offset bytes) = reply.Words (range_of (offset / 4) (bytes / 4) (words_at s.memory b.0))
+good_reply s c = answer s (does c).asks (does c).reads
 
 abbrev pub reply_or : Option Hresult → Reply → Reply
 reply_or None r = r

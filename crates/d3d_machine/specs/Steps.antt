@@ -7,8 +7,8 @@ use Rattle.d3d_machine.specs.declared.calls.Call.{Call}
 use Rattle.d3d_machine.specs.declared.events.Event.{Event}
 use Rattle.d3d_machine.specs.declared.events.Event.TheVariants as event
 use Rattle.d3d_machine.specs.State.{Waiting, Desk, State, place_of, next_call, called_of}
-use Rattle.d3d_machine.specs.Replies.{refusal, reply_of}
-use Rattle.d3d_machine.specs.Effects.{effect, after_refused, desk_or, memory_or, written, woken, after}
+use Rattle.d3d_machine.specs.Replies.{reply_of}
+use Rattle.d3d_machine.specs.Effects.{done, desk_by, memory_by, woken, after}
 
 -- the event of a thread that makes its next call, where its script has one
 abbrev pub call_step : World → State → ThreadId → Option Call → Option Event
@@ -47,7 +47,4 @@ after_step w s (Some e) = after w s e
 
 -- the state after a call, but for the count of the thread's calls
 abbrev pub served : World → State → ℕ → Call → State
-served w s t c = record {
-  desk = desk_or (refusal w s.desk c) (effect w s.desk t c) (after_refused s.desk c);
-  memory = memory_or (refusal w s.desk c) (written c s.memory) s.memory;
-}
+served w s t c = record { desk = desk_by w s.desk t (done w s.desk.lists c); memory = memory_by (done w s.desk.lists c).stores s.memory }

@@ -194,7 +194,7 @@ impl Machine {
     }
 
     /// Does what a call does, but for the count of the thread's calls. Refused for memory, nothing changes.
-    #[tactic(auto, using(crate::proofs::Served::served_record, crate::proofs::Served::served_close, crate::proofs::Served::served_reset, crate::proofs::Served::served_execute, crate::proofs::Served::served_write, crate::proofs::Served::served_read))]
+    #[tactic(auto, using(crate::proofs::Served::served_record, crate::proofs::Served::served_close, crate::proofs::Served::served_reset, crate::proofs::Served::served_execute, crate::proofs::Served::served_write))]
     fn serve(&mut self, world: &World, thread: ThreadId, call: &Call) -> Result<Reply, Memory>
         requires shape { HasShape world.now self.old }
         requires thread { thread.0 < length world.now.scripts }
