@@ -5,13 +5,16 @@ use Rattle.std.proofs.lemmas.List.{append-nil}
 use Rattle.std.proofs.lemmas.Bool.Decides.{eqb_tells}
 use Rattle.std.specs.Option.{option_map}
 use Rattle.dx_base.specs.Lists.{changed_at}
-use Rattle.dx_base.specs.Effects.{At, changed_by}
+use Rattle.dx_base.specs.Effects.{At, changed_by, unless}
 use Rattle.dx_base.proofs.Lists.{length_changed, get_changed, get_changed_other}
 use Rattle.d3d_machine.specs.declared.calls.Call.{Call}
 use Rattle.d3d_machine.specs.declared.calls.Call.TheVariants as call
+use Rattle.d3d_machine.specs.declared.events.Listed.{Listed}
+use Rattle.d3d_machine.specs.declared.world.World.{World}
 use Rattle.d3d_machine.specs.CallEffects.{here_of, Does, does}
+use Rattle.d3d_machine.specs.Replies.{refusal_by}
 use Rattle.d3d_machine.specs.State.{Desk, Place, value_of}
-use Rattle.d3d_machine.specs.Effects.{with_one, marked_place, begins_wait, marked_places, waiting_places}
+use Rattle.d3d_machine.specs.Effects.{done, with_one, marked_place, begins_wait, marked_places, waiting_places}
 
 -- the only call that begins a wait
 pub is_wait : (c : Call) (x : At ℕ) → (does c).waits ≡ Some x → c ≡ call.HostWait (record { 0 = x.place }) x.what
@@ -28,6 +31,18 @@ is_wait (call.HostWait f v) x is =
 is_wait (call.Value f) x is = absurd (cc)
 is_wait (call.Write b offset ws) x is = absurd (cc)
 is_wait (call.Read b offset bytes) x is = absurd (cc)
+
+-- a wait is never refused
+pub waits_done : (w : World) (lists : List Listed) (c : Call) → (done w lists c).waits ≡ (does c).waits
+waits_done w lists c = by_wait (does c).waits refl
+  where
+    by_wait : (o : Option (At ℕ)) → (does c).waits ≡ o → (done w lists c).waits ≡ o
+    by_wait None is = ap (λ x. unless x (refusal_by w lists c)) is
+    by_wait (Some x) is = ap (λ k. (done w lists k).waits) (is_wait c x is)
+
+-- a call that begins a wait gives no fence a value
+pub wait_sets_none : (w : World) (lists : List Listed) (c : Call) (x : At ℕ) → (does c).waits ≡ Some x → (done w lists c).sets ≡ None
+wait_sets_none w lists c x is = ap (λ k. (done w lists k).sets) (is_wait c x is)
 
 -- a list that takes one more takes what is there for its place
 pub one_more_here : {A : Type 0} (o : Option (At A)) (xss : List (List A)) (k : ℕ) (xs : List A) → slice_get xss k ≡ Some xs →

@@ -1,5 +1,5 @@
 -- What a call, a submission and a step of the device leave of the words ahead.
-use Rattle.std.proofs.Common.{ℕ, ◌≡◌, ◌<◌, ◌+◌, ◌-◌, ◌∙◌, sym, ap, subst, refl, arith, List, [], ◌∷◌, ◌++◌, length, drop, Some, None, Option, Bool, true, false, append-nil, inl, inr, slice_get, get_or}
+use Rattle.std.proofs.Common.{ℕ, ◌≡◌, ◌<◌, ◌+◌, ◌-◌, ◌∙◌, sym, ap, subst, refl, arith, List, [], ◌∷◌, ◌++◌, length, drop, Some, None, Option, Bool, true, false, is_some, ◌||◌, append-nil, inl, inr, slice_get, get_or}
 use Rattle.std.specs.Prelude.{◌==◌, if◌then◌else◌}
 use Rattle.std.proofs.lemmas.Bool.{cases_Bool}
 use Rattle.std.proofs.lemmas.List.{drop-drop}
@@ -11,7 +11,8 @@ use Rattle.dx_base.specs.declared.hresult.Hresult.{Hresult}
 use Rattle.dx_base.proofs.Lists.{get_or_changed}
 use Rattle.d3d_machine.specs.declared.world.World.{World}
 use Rattle.d3d_machine.specs.declared.calls.Call.{Call}
-use Rattle.d3d_machine.specs.declared.calls.Call.TheVariants as call
+use Rattle.dx_base.specs.Effects.{At, unless}
+use Rattle.d3d_machine.specs.CallEffects.{does}
 use Rattle.d3d_machine.specs.declared.calls.Reply.{Reply}
 use Rattle.d3d_machine.specs.declared.events.Listed.{Listed}
 use Rattle.d3d_machine.specs.declared.events.Operation.{Operation}
@@ -20,7 +21,7 @@ use Rattle.d3d_machine.specs.declared.events.Event.TheVariants as event
 use Rattle.d3d_machine.specs.World.{IsWorld}
 use Rattle.d3d_machine.specs.State.{State, first_state}
 use Rattle.d3d_machine.specs.Replies.{refusal}
-use Rattle.d3d_machine.specs.Effects.{memory_or, written, memory_after, memory_after_operation}
+use Rattle.d3d_machine.specs.Effects.{done, memory_by, memory_after, memory_after_operation}
 use Rattle.d3d_machine.specs.Play.{IsRunButWords, state_after}
 use Rattle.d3d_machine.specs.Operations.{operations, counter}
 use Rattle.d3d_machine.specs.Good.{is_good_operation}
@@ -42,14 +43,13 @@ use Rattle.vk_port.specs.Valid.{IsValid, Matches}
 use Rattle.vk_port.specs.VkState.{VkState, lane_of, no_lane}
 use Rattle.vk_port.proofs.Falls.{valid_place, unmarked_all}
 use Rattle.vk_port.proofs.Enabled.{enabled_means}
-use Rattle.sys_core.specs.Parts.{desk_of, device_by}
+use Rattle.sys_core.specs.Parts.{device_by}
 use Rattle.sys_core.specs.Lowering.{plan_of_world, lowered_commands}
 use Rattle.sys_core.specs.Memory.{memory_of, device_words}
 use Rattle.sys_core.specs.Steps.{submitted_of, step_events}
 use Rattle.sys_core.specs.Consistent.{IsDevice}
 use Rattle.sys_core.specs.Ahead.{run_commands, batches_undone, memory_ahead, IsAhead, IsQuiet, is_good_access}
 use Rattle.sys_core.proofs.Standing.{of_queue_append}
-use Rattle.sys_core.proofs.Calling.{refusal_is}
 use Rattle.sys_core.proofs.Holding.{drop_here}
 use Rattle.sys_core.proofs.Buffers.{memory_written}
 use Rattle.sys_core.proofs.Spread.{as_many, device_of_memory}
@@ -61,19 +61,20 @@ use Rattle.sys_core.proofs.Orderly.{order_tail}
 use Rattle.sys_core.proofs.Ahead.{device_within, called_now, ahead_event, IsIdle, quiet_is_idle, idle_words}
 use Rattle.sys_core.proofs.Work.{number_behind}
 
--- a call that is no host access, or is refused, writes nothing
-stays : (r : Option Hresult) (c : Call) → is_good_access r c ≡ false → (m : List (List ℕ)) → memory_or r (written c m) m ≡ m
-stays (Some e) c none m = refl
-stays None (call.Recording l what) none m = refl
-stays None (call.Close l) none m = refl
-stays None (call.Reset l a) none m = refl
-stays None (call.Execute q ls) none m = refl
-stays None (call.Signal q f v) none m = refl
-stays None (call.HostSignal f v) none m = refl
-stays None (call.HostWait f v) none m = refl
-stays None (call.Value f) none m = refl
-stays None (call.Write b offset ws) none m = absurd (cc)
-stays None (call.Read b offset bytes) none m = refl
+-- where nothing is read or written, or the call is refused
+abbrev IsNoAccess : Option Hresult → Bool → Type 0
+IsNoAccess None access = access ≡ false
+IsNoAccess (Some e) access = Unit {0}
+
+not_good : (r : Option Hresult) (c : Call) → is_good_access r c ≡ false → IsNoAccess r (is_some (does c).reads || is_some (does c).stores)
+not_good None c none = none
+not_good (Some e) c none = tt
+
+stays : (r : Option Hresult) (x : Option (At (ℕ × ℕ))) (o : Option (At (ℕ × List ℕ))) (m : List (List ℕ)) → IsNoAccess r (is_some x || is_some o) → memory_by (unless o r) m ≡ m
+stays r x None m none = refl
+stays (Some e) x (Some o) m none = refl
+stays None None (Some o) m none = absurd (cc)
+stays None (Some x) (Some o) m none = absurd (cc)
 
 -- a call that is served: where it is a host access, no called operation is incomplete
 pub ahead_call : (w : World) (h : List Event) (lists : List Listed) (v : VkState) (t : ThreadId) (c : Call) (r : Reply) →
@@ -83,23 +84,23 @@ ahead_call w h lists v t c r run device some are quiet is =
     let m : List (List ℕ) = (state_after w h).memory in
     let no : Option Hresult = refusal w (state_after w h).desk c in
     let mine : List (List ℕ) = memory_of w v.words in
-    let words : List (List ℕ) = device_words w (memory_or (refusal w (desk_of lists) c) (written c mine) mine) in
+    let o : Option (At (ℕ × List ℕ)) = (done w (state_after w h).desk.lists c).stores in
+    let words : List (List ℕ) = device_words w (memory_by (done w lists c).stores mine) in
     let us : List VkCommand = batches_undone (lane_of v 0).batches in
     let held : List Operation = drop (submitted_of v 0) (operations w h 0) in
     let called : List Operation = drop (counter h 0) (operations w h 0) in
-    let alike : words ≡ device_words w (memory_or no (written c mine) mine) =
-    ap (λ o. device_words w (memory_or o (written c mine) mine)) (refusal_is w (state_after w h).desk lists c are) in
+    let alike : words ≡ device_words w (memory_by o mine) = ap (λ ls. device_words w (memory_by (done w ls c).stores mine)) are in
     ahead_event w h (event.Call t c r) v words (device_within w h v device some) refl
-    (elim (cases_Bool (is_good_access no c)) as (λ _. memory_ahead held (memory_of w (run_commands us words)) ≡ memory_ahead called (memory_or no (written c m) m)) [
+    (elim (cases_Bool (is_good_access no c)) as (λ _. memory_ahead held (memory_of w (run_commands us words)) ≡ memory_ahead called (memory_by o m)) [
       | inl access ↦
           let idle : IsIdle w h v = quiet_is_idle w h v run device some (quiet access) in
           ap (λ cs. memory_ahead held (memory_of w (run_commands cs words))) idle.undone ∙ ap (λ os. memory_ahead os (memory_of w words)) idle.held
-          ∙ ap (memory_of w) alike ∙ memory_written w v no c device.objects ∙ ap (λ ws. memory_or no (written c ws) ws) (idle_words w h v is idle)
-          ∙ ap (λ os. memory_ahead os (memory_or no (written c m) m)) (sym idle.called)
+          ∙ ap (memory_of w) alike ∙ memory_written w v o device.objects ∙ ap (memory_by o) (idle_words w h v is idle)
+          ∙ ap (λ os. memory_ahead os (memory_by o m)) (sym idle.called)
       | inr none ↦
           ap (λ ws. memory_ahead held (memory_of w (run_commands us ws)))
-          (alike ∙ ap (device_words w) (stays no c none mine) ∙ device_of_memory w v.words (as_many w v device.objects))
-          ∙ is.ahead ∙ ap (memory_ahead called) (sym (stays no c none m))
+          (alike ∙ ap (device_words w) (stays no (does c).reads (does c).stores mine (not_good no c none)) ∙ device_of_memory w v.words (as_many w v device.objects))
+          ∙ is.ahead ∙ ap (memory_ahead called) (sym (stays no (does c).reads (does c).stores m (not_good no c none)))
     ])
 
 one_more_submitted : (v : VkState) (b : Batch) → b.queue ≡ 0 → b.number ≡ submitted_of v 0 + 1 → submitted_of (after_submit v b) 0 ≡ submitted_of v 0 + 1

@@ -5,10 +5,9 @@ use Rattle.std.proofs.lemmas.List.{length-replicate}
 use Rattle.std.proofs.lemmas.Option.{slice_get-map, slice_get_within, get_or_from_slice_get}
 use Rattle.std.specs.List.{slice_get}
 use Rattle.std.specs.Option.{option_map}
-use Rattle.dx_base.specs.declared.hresult.Hresult.{Hresult}
+use Rattle.dx_base.specs.Effects.{At}
 use Rattle.d3d_machine.specs.declared.world.World.{World}
-use Rattle.d3d_machine.specs.declared.calls.Call.{Call}
-use Rattle.d3d_machine.specs.Effects.{memory_or, written}
+use Rattle.d3d_machine.specs.Effects.{memory_by}
 use Rattle.d3d_machine.specs.declared.world.Resource.{Resource}
 use Rattle.d3d_machine.specs.declared.world.Resource.TheVariants.{Buffer}
 use Rattle.d3d_machine.specs.World.{IsWorld, resource_of, words_of_resource, is_small_resource}
@@ -16,7 +15,7 @@ use Rattle.d3d_machine.specs.State.{zeros}
 use Rattle.d3d_machine.specs.declared.events.Event.{Event}
 use Rattle.d3d_machine.specs.Play.{state_after}
 use Rattle.d3d_machine.proofs.Named.{all_at}
-use Rattle.d3d_machine.proofs.Sizes.{memory_sizes, sizes_or}
+use Rattle.d3d_machine.proofs.Sizes.{memory_sizes, sizes_stored}
 use Rattle.vk_port.specs.Valid.{Matches}
 use Rattle.vk_port.specs.VkState.{VkState}
 use Rattle.sys_core.specs.Lowering.{plan_number, plan_of_world}
@@ -33,20 +32,19 @@ zeroed (Some r ∷ rs) = ap (λ n. n ∷ map length (map zeros rs)) (length-repl
 pub same_sizes : (w : World) (h : List Event) (v : VkState) → Matches (plan_of_world w) v → map length (memory_of w v.words) ≡ map length (state_after w h).memory
 same_sizes w h v objects = memory_sizes_of w v objects ∙ sym (memory_sizes w h ∙ zeroed w.resources)
 
-sizes_by : (w : World) (v : VkState) (r : Option Hresult) (c : Call) → Matches (plan_of_world w) v →
-    map length (memory_or r (written c (memory_of w v.words)) (memory_of w v.words)) ≡ map resource_words w.resources
-sizes_by w v r c objects = sizes_or r c (memory_of w v.words) ∙ memory_sizes_of w v objects
+sizes_by : (w : World) (v : VkState) (o : Option (At (ℕ × List ℕ))) → Matches (plan_of_world w) v →
+    map length (memory_by o (memory_of w v.words)) ≡ map resource_words w.resources
+sizes_by w v o objects = sizes_stored o (memory_of w v.words) ∙ memory_sizes_of w v objects
 
 -- the memory of the device's words after a call
-pub memory_written : (w : World) (v : VkState) (r : Option Hresult) (c : Call) → Matches (plan_of_world w) v →
-    memory_of w (device_words w (memory_or r (written c (memory_of w v.words)) (memory_of w v.words))) ≡ memory_or r (written c (memory_of w v.words)) (memory_of w v.words)
-memory_written w v r c objects = memory_of_device w (memory_or r (written c (memory_of w v.words)) (memory_of w v.words)) (sizes_by w v r c objects)
+pub memory_written : (w : World) (v : VkState) (o : Option (At (ℕ × List ℕ))) → Matches (plan_of_world w) v →
+    memory_of w (device_words w (memory_by o (memory_of w v.words))) ≡ memory_by o (memory_of w v.words)
+memory_written w v o objects = memory_of_device w (memory_by o (memory_of w v.words)) (sizes_by w v o objects)
 
 -- the device's buffers have their sizes after a call
-pub sizes_written_by : (w : World) (v : VkState) (r : Option Hresult) (c : Call) → Matches (plan_of_world w) v →
-    map length (device_words w (memory_or r (written c (memory_of w v.words)) (memory_of w v.words))) ≡ map length v.words
-sizes_written_by w v r c objects =
-    device_sizes_of w (memory_or r (written c (memory_of w v.words)) (memory_of w v.words)) (sizes_by w v r c objects) ∙ sym objects.buffers
+pub sizes_written_by : (w : World) (v : VkState) (o : Option (At (ℕ × List ℕ))) → Matches (plan_of_world w) v →
+    map length (device_words w (memory_by o (memory_of w v.words))) ≡ map length v.words
+sizes_written_by w v o objects = device_sizes_of w (memory_by o (memory_of w v.words)) (sizes_by w v o objects) ∙ sym objects.buffers
 
 -- a list of a known length at a place
 long_at : (xs : List (List ℕ)) (b n : ℕ) → slice_get (map length xs) b ≡ Some n → (ys : List ℕ) × (slice_get xs b ≡ Some ys) × (length ys ≡ n)

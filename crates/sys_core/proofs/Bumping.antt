@@ -8,6 +8,7 @@ use Rattle.std.specs.List.{slice_get, list_all}
 use Rattle.std.specs.Option.{option_map}
 use Rattle.std.specs.Prelude.{◌==◌, nat_lt, if◌then◌else◌}
 use Rattle.dx_base.specs.Lists.{changed_at}
+use Rattle.dx_base.specs.Effects.{changed_by}
 use Rattle.dx_base.specs.declared.ids.QueueId.{QueueId}
 use Rattle.dx_base.proofs.Lists.{length_changed, get_changed, get_or_changed}
 use Rattle.d3d_machine.specs.declared.world.World.{World}
@@ -17,7 +18,7 @@ use Rattle.d3d_machine.specs.declared.events.Operation.TheVariants.{Execute, Sig
 use Rattle.d3d_machine.specs.declared.events.Event.{Event}
 use Rattle.d3d_machine.specs.declared.events.Event.TheVariants as event
 use Rattle.d3d_machine.specs.State.{State, called_of}
-use Rattle.d3d_machine.specs.Effects.{head_of, dropped, desk_after_operation}
+use Rattle.d3d_machine.specs.Effects.{with_one, head_of, dropped, desk_after_operation}
 use Rattle.d3d_machine.specs.Play.{SameButWords, state_after}
 use Rattle.d3d_machine.specs.Operations.{operations, counter, completions_by}
 use Rattle.d3d_machine.proofs.Operations.{HoldsRest, called_after}
@@ -31,7 +32,7 @@ use Rattle.vk_port.proofs.Valid.{step_valid}
 use Rattle.vk_port.proofs.Lists.{item_at, get_of_take}
 use Rattle.d3d_machine.proofs.Runs.{run_append, state_after_append}
 use Rattle.dx_base.specs.declared.kinds.ListType.{ListType}
-use Rattle.sys_core.proofs.Seating.{seats_complete, update_pushed}
+use Rattle.sys_core.proofs.Seating.{seats_complete, fences_event}
 use Rattle.sys_core.proofs.Standing.{stands_complete}
 use Rattle.sys_core.proofs.Holding.{held_complete}
 use Rattle.d3d_machine.proofs.Operations.{counter_append}
@@ -41,7 +42,7 @@ use Rattle.vk_port.specs.VkState.{VkState, lane_of, no_lane, counter_of}
 use Rattle.vk_port.specs.After.{with_done, place_of, after_step, lane_after_bump, lane_after_pass, lane_after_run, after_sets, sets_of}
 use Rattle.sys_core.specs.declared.parts.Signalled.{Signalled}
 use Rattle.sys_core.specs.Lowering.{startup, opening_batches, plan_of_world}
-use Rattle.d3d_machine.specs.Fences.{update_of_operation, applied_updates}
+use Rattle.d3d_machine.specs.Fences.{operation_sets, applied_updates}
 use Rattle.std.proofs.lemmas.Bool.{eq-eqb}
 use Rattle.sys_core.specs.Parts.{Queued, with_number, signal_at, without, without_first, updated_by}
 use Rattle.sys_core.specs.Stands.{Stands, StandsAt}
@@ -52,7 +53,6 @@ use Rattle.sys_core.proofs.Standing.{submitted_is}
 use Rattle.sys_core.proofs.Startup.{begins_of, begins_by, one_queue}
 use Rattle.sys_core.proofs.Holding.{drop_here, slice_get_drop}
 use Rattle.sys_core.proofs.Lowered.{IsBatch, lowered_member, of_queue_member, number_at}
-use Rattle.d3d_machine.proofs.Marks.{applied_append}
 
 drop_long : {A : Type 0} (n : ℕ) (xs ys : List A) → ys ≡ drop n xs → 0 < length ys → (n ≡ length xs - length ys) × (n < length xs)
 drop_long n xs ys is some =
@@ -162,16 +162,6 @@ without_is n (Signal f v) x = refl
 without_keeps : (s : Option Signalled) (x : Queued) → ((without s x).submitted ≡ x.submitted) × ((without s x).last_signal ≡ x.last_signal) × ((without s x).operations ≡ x.operations)
 without_keeps None x = (refl, refl, refl)
 without_keeps (Some s) x = (refl, refl, refl)
-
--- the fences' updates when an operation has completed
-updated_is : (n : ℕ) (o : Operation) (fences : List (List ℕ)) (f : ℕ) (us : List ℕ) → slice_get fences f ≡ Some us →
-    slice_get (updated_by (signal_by n o) fences) f ≡ Some (us ++ update_of_operation f (Some o))
-updated_is n (Execute cs) fences f us is = is ∙ ap (λ xs. Some xs) (sym (append-nil us))
-updated_is n (Signal g v) fences f us is = update_pushed g.0 f v fences us is
-
-updated_length : (s : Option Signalled) (fences : List (List ℕ)) → length (updated_by s fences) ≡ length fences
-updated_length None fences = refl
-updated_length (Some s) fences = length_changed (λ us. us ++ s.value ∷ []) fences s.fence.0
 
 -- the steps that end no batch: the batches of each lane are as many, the journal and the timelines stay
 same_batches : (v u : VkState) (q : ℕ) → u.journal ≡ v.journal → ((p : ℕ) → length (lane_of u p).batches ≡ length (lane_of v p).batches) → finished_of u q ≡ finished_of v q
@@ -301,13 +291,16 @@ signal_of_head w h v n x o holds ending called less =
     (holds.pending ∙ ap (signals_of (c + 1)) (drop_here c (take x.submitted os) o first)
     ∙ ap (λ k. signals_of k (o ∷ drop (c + 1) (take x.submitted os))) (omega (arith, ending.counter_is, ending.some)))
 
+updated_is : (n : ℕ) (o : Operation) (fences : List (List ℕ)) → changed_by with_one (operation_sets (Some o)) fences ≡ updated_by (signal_by n o) fences
+updated_is n (Execute cs) fences = refl
+updated_is n (Signal f v) fences = refl
+
+-- the fences' updates when an operation has completed
 fences_end : (w : World) (h : List Event) (q : QueueId) (n : ℕ) (o : Operation) (fences : List (List ℕ)) → AreFences w h fences → head_of (state_after w h).desk q.0 ≡ Some o →
     AreFences w (h ++ event.Queue q ∷ []) (updated_by (signal_by n o) fences)
-fences_end w h q n o fences are head = record {
-  count = updated_length (signal_by n o) fences ∙ are.count;
-  each = λ f within. updated_is n o fences f (applied_updates w h f) (are.each f within)
-      ∙ ap (λ us. Some us) (sym (applied_append w h (event.Queue q) f ∙ ap (λ y. applied_updates w h f ++ update_of_operation f y) head));
-}
+fences_end w h q n o fences are head =
+    subst (AreFences w (h ++ event.Queue q ∷ [])) (ap (λ x. changed_by with_one (operation_sets x) fences) head ∙ updated_is n o fences)
+    (fences_event w h (event.Queue q) fences are)
 
 held_end : (w : World) (h : List Event) (v u : VkState) (q : QueueId) (n : ℕ) (o : Operation) (x : Queued) (held : List Queued) → AreHeld w h v held → slice_get held 0 ≡ Some x →
     length w.queues ≡ 1 → completions_by 0 (event.Queue q) ≡ 1 → counter h 0 < x.submitted → slice_get (operations w h 0) (counter h 0) ≡ Some o →

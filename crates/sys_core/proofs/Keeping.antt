@@ -1,5 +1,5 @@
 -- The system keeps what it keeps at each step.
-use Rattle.std.proofs.Common.{ℕ, ◌≡◌, ◌<◌, ◌∙◌, sym, ap, subst, refl, List, [], ◌∷◌, ◌++◌, length, map, Some, None, Option, true}
+use Rattle.std.proofs.Common.{ℕ, ◌≡◌, ◌<◌, ◌+◌, ◌∙◌, sym, ap, subst, refl, List, [], ◌∷◌, ◌++◌, length, map, Some, None, Option, true}
 use Rattle.std.proofs.lemmas.Bool.{ltb-true}
 use Rattle.std.proofs.lemmas.Option.{slice_get-map, get_or_from_slice_get}
 use Rattle.std.specs.List.{slice_get}
@@ -10,7 +10,11 @@ use Rattle.dx_base.specs.declared.ids.ThreadId.{ThreadId}
 use Rattle.dx_base.proofs.Lists.{and_both}
 use Rattle.d3d_machine.specs.declared.world.World.{World}
 use Rattle.d3d_machine.specs.declared.calls.Call.{Call}
-use Rattle.d3d_machine.specs.declared.calls.Call.TheVariants as call
+use Rattle.d3d_machine.specs.declared.events.Listed.{Listed}
+use Rattle.dx_base.specs.Effects.{At, changed_by}
+use Rattle.d3d_machine.specs.CallEffects.{does}
+use Rattle.d3d_machine.specs.Effects.{with_one}
+use Rattle.d3d_machine.proofs.CallEffects.{wait_sets_none}
 use Rattle.d3d_machine.specs.declared.events.Event.{Event}
 use Rattle.d3d_machine.specs.declared.events.Event.TheVariants as event
 use Rattle.d3d_machine.specs.State.{Place, place_of, opening_place, script_of}
@@ -22,7 +26,7 @@ use Rattle.vk_port.specs.VkState.{VkState}
 use Rattle.sys_core.specs.declared.parts.Armed.{Armed}
 use Rattle.sys_core.specs.declared.parts.Seat.{Seat}
 use Rattle.sys_core.specs.declared.parts.Parts.{Parts}
-use Rattle.sys_core.specs.Parts.{Queued, queued, updates_in, is_met_by, reply_by, lists_by, held_by, fences_by, device_by, seat_after, woken_seat}
+use Rattle.sys_core.specs.Parts.{Queued, queued, updates_in, is_met_by, reply_by, lists_by, held_by, fences_by, armed_or, device_by, seat_after, woken_seat}
 use Rattle.sys_core.specs.Steps.{is_ready_thread, is_ready_place}
 use Rattle.sys_core.specs.Consistent.{place_from, is_behind, waiting_from, is_armed_met, IsConsistent, AreFences}
 use Rattle.sys_core.specs.Lowering.{AreNumbers}
@@ -74,17 +78,14 @@ keeps_same state plan_of w h p r d e keeps stays device plan = record {
 }
 
 -- only a wait looks at the fences, and it leaves them
-seat_unmoved : (c : Call) (fences : List (List ℕ)) (s : Seat) → seat_after (fences_by c fences) c s ≡ seat_after fences c s
-seat_unmoved (call.Recording l what) fences s = refl
-seat_unmoved (call.Close l) fences s = refl
-seat_unmoved (call.Reset l a) fences s = refl
-seat_unmoved (call.Execute q ls) fences s = refl
-seat_unmoved (call.Signal q f v) fences s = refl
-seat_unmoved (call.HostSignal f v) fences s = refl
-seat_unmoved (call.HostWait f v) fences s = refl
-seat_unmoved (call.Value f) fences s = refl
-seat_unmoved (call.Write b o ws) fences s = refl
-seat_unmoved (call.Read b o n) fences s = refl
+seat_unmoved : (w : World) (lists : List Listed) (c : Call) (fences : List (List ℕ)) (s : Seat) → seat_after (fences_by w lists c fences) c s ≡ seat_after fences c s
+seat_unmoved w lists c fences s = by_wait (does c).waits refl
+  where
+    by_wait : (o : Option (At ℕ)) → (does c).waits ≡ o → seat_after (fences_by w lists c fences) c s ≡ seat_after fences c s
+    by_wait None is =
+        ap (λ x. let y : Seat = record { made = s.made + 1; waits = armed_or (fences_by w lists c fences) x s.waits } in y) is
+        ∙ sym (ap (λ x. let y : Seat = record { made = s.made + 1; waits = armed_or fences x s.waits } in y) is)
+    by_wait (Some x) is = ap (λ o. seat_after (changed_by with_one o fences) c s) (wait_sets_none w lists c x is)
 
 -- a call was served, and the thread's place moved
 pub keeps_call : {D : Type 0} (state : D → VkState) (plan_of : D → Option DevicePlan) (w : World) (h : List Event) (p r x : Parts) (d e : D) (t : ThreadId) (c : Call) (s : Seat) →
@@ -98,20 +99,20 @@ keeps_call state plan_of w h p r x d e t c s keeps at waits next serves device p
     let k : List Event = h ++ event.Call t c (reply_by w p.lists us (state d) c) ∷ [] in
     let v : VkState = device_by w p.lists (state d) c in
     let qs : List Queued = held_by w p.lists c (map queued p.held) in
-    let is : IsConsistent w k (lists_by w p.lists c) (changed_at (seat_after us c) t.0 p.seats) (fences_by c us) qs v =
+    let is : IsConsistent w k (lists_by w p.lists c) (changed_at (seat_after us c) t.0 p.seats) (fences_by w p.lists c us) qs v =
     consistent_call w h p.lists p.seats us (map queued p.held) (state d) t c keeps.consistent
     (ap (λ (y : Place). y.waits) place ∙ ap (option_map (waiting_from w h)) waits)
     (ap (λ (y : Place). slice_get (script_of w t.0) y.made) place ∙ next) in
     let seated : x.seats ≡ changed_at (seat_after us c) t.0 p.seats =
-    seats ∙ ap (λ fs. changed_at (seat_after fs c) t.0 r.seats) serves.fences ∙ ap (changed_at (seat_after (fences_by c us) c) t.0) serves.seats
-    ∙ changed_ext (seat_after (fences_by c us) c) (seat_after us c) t.0 p.seats (seat_unmoved c us) in
+    seats ∙ ap (λ fs. changed_at (seat_after fs c) t.0 r.seats) serves.fences ∙ ap (changed_at (seat_after (fences_by w p.lists c us) c) t.0) serves.seats
+    ∙ changed_ext (seat_after (fences_by w p.lists c us) c) (seat_after us c) t.0 p.seats (seat_unmoved w p.lists c us) in
     record {
       consistent =
           subst (λ y. IsConsistent w k x.lists x.seats (map updates_in x.fences) (map queued x.held) y) (sym device)
           (subst (λ y. IsConsistent w k x.lists x.seats (map updates_in x.fences) y v) (sym (ap (map queued) held ∙ serves.held))
           (subst (λ y. IsConsistent w k x.lists x.seats y qs v) (sym (ap (map updates_in) fences ∙ serves.fences))
-          (subst (λ y. IsConsistent w k x.lists y (fences_by c us) qs v) (sym seated)
-          (subst (λ y. IsConsistent w k y (changed_at (seat_after us c) t.0 p.seats) (fences_by c us) qs v)
+          (subst (λ y. IsConsistent w k x.lists y (fences_by w p.lists c us) qs v) (sym seated)
+          (subst (λ y. IsConsistent w k y (changed_at (seat_after us c) t.0 p.seats) (fences_by w p.lists c us) qs v)
           (sym (lists ∙ serves.lists)) is))));
       plan = plan ∙ keeps.plan;
       numbers = subst (AreNumbers w.resources) (sym (numbers ∙ serves.numbers)) keeps.numbers;

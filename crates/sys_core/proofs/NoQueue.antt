@@ -5,19 +5,21 @@ use Rattle.std.specs.List.{list_all}
 use Rattle.std.proofs.lemmas.Bool.{ltb-true, cases_lt}
 use Rattle.std.proofs.lemmas.Bool.Decides.{eqb_tells}
 use Rattle.dx_base.specs.declared.hresult.Hresult.{Hresult}
+use Rattle.dx_base.specs.Effects.{At, unless}
 use Rattle.d3d_machine.specs.declared.world.World.{World}
 use Rattle.d3d_machine.specs.declared.calls.Call.{Call}
 use Rattle.d3d_machine.specs.declared.calls.Call.TheVariants as call
 use Rattle.d3d_machine.specs.declared.events.Operation.{Operation}
-use Rattle.d3d_machine.specs.declared.events.Operation.TheVariants as operation
+use Rattle.d3d_machine.specs.declared.events.Listed.{Listed}
 use Rattle.d3d_machine.specs.declared.events.Event.{Event}
 use Rattle.d3d_machine.specs.declared.events.Event.TheVariants as event
 use Rattle.d3d_machine.specs.World.{IsWorld, is_named}
 use Rattle.d3d_machine.specs.State.{Desk, State, first_state}
-use Rattle.d3d_machine.specs.Replies.{refusal}
-use Rattle.d3d_machine.specs.Effects.{gathered, memory_after}
+use Rattle.d3d_machine.specs.CallEffects.{here_of, Task, does}
+use Rattle.d3d_machine.specs.Replies.{refusal_by}
+use Rattle.d3d_machine.specs.Effects.{operation_of, operation_given, memory_after}
 use Rattle.d3d_machine.specs.Play.{May, SameButWords, IsRunButWords, state_after}
-use Rattle.d3d_machine.specs.Operations.{operation_of, unless_refused, called_by, operations, counter}
+use Rattle.d3d_machine.specs.Operations.{called_by, operations, counter}
 use Rattle.d3d_machine.proofs.Operations.{operations_append}
 use Rattle.d3d_machine.proofs.Runs.{run_induction, state_after_append}
 use Rattle.d3d_machine.proofs.Named.{next_is_named, and_left}
@@ -29,35 +31,37 @@ use Rattle.sys_core.specs.Steps.{submitted_of}
 use Rattle.sys_core.specs.Ahead.{run_commands, batches_undone, memory_ahead, IsAhead, IsQuiet}
 use Rattle.sys_core.proofs.Ahead.{drop_past, IsIdle, idle_words, quiet_is_idle}
 
-unless_none : (r : Option Hresult) → unless_refused r [] ≡ []
-unless_none None = refl
-unless_none (Some e) = refl
+-- the queue to which a call gives a task is one of the world, where the call names objects of it
+gives_named : (w : World) (c : Call) (x : At Task) → (does c).gives ≡ Some x → is_named w c ≡ true → x.place < length w.queues
+gives_named w (call.Recording l what) x is named = absurd (cc)
+gives_named w (call.Close l) x is named = absurd (cc)
+gives_named w (call.Reset l a) x is named = absurd (cc)
+gives_named w (call.Execute q ls) x is named =
+    let place : q.0 ≡ x.place = grind arith in
+    omega (arith, place, ltb-true q.0 (length w.queues) (and_left (nat_lt q.0 (length w.queues)) (list_all (λ l. nat_lt l.0 (length w.lists)) ls) named))
+gives_named w (call.Signal q f v) x is named =
+    let place : q.0 ≡ x.place = grind arith in
+    omega (arith, place, ltb-true q.0 (length w.queues) (and_left (nat_lt q.0 (length w.queues)) (nat_lt f.0 (length w.fences)) named))
+gives_named w (call.HostSignal f v) x is named = absurd (cc)
+gives_named w (call.HostWait f v) x is named = absurd (cc)
+gives_named w (call.Value f) x is named = absurd (cc)
+gives_named w (call.Write b offset ws) x is named = absurd (cc)
+gives_named w (call.Read b offset bytes) x is named = absurd (cc)
 
-pushes_none : (p q n : ℕ) (o : Operation) (others : Bool) → n ≤ q → (nat_lt p n && others) ≡ true → (if (p == q) then o ∷ [] else []) ≡ []
-pushes_none p q n o others past named =
-    let less : p < n = ltb-true p n (and_left (nat_lt p n) others named) in
-    elim (eqb_tells p q) [
-      | inl same ↦ absurd (omega (arith, same.1))
-      | inr other ↦ ap (λ t. if t then o ∷ [] else []) other.0
+-- a call gives a queue that is none no operation
+given_none : (w : World) (lists : List Listed) (q : ℕ) (o : Option (At Task)) (r : Option Hresult) → length w.queues ≤ q → ((x : At Task) → o ≡ Some x → x.place < length w.queues) →
+    here_of q (operation_given lists (unless o r)) ≡ []
+given_none w lists q None r past within = refl
+given_none w lists q (Some x) (Some e) past within = refl
+given_none w lists q (Some x) None past within =
+    elim (eqb_tells x.place q) [
+      | inl same ↦ absurd (omega (arith, same.1, past, within x refl))
+      | inr other ↦ ap (λ t. if t then operation_of lists x.what ∷ [] else []) other.0
     ]
-
--- a call that names objects of the world gives a queue that is none no operation
-operation_none : (w : World) (d : Desk) (q : ℕ) (c : Call) → length w.queues ≤ q → is_named w c ≡ true → operation_of d q c ≡ []
-operation_none w d q (call.Recording l what) past named = refl
-operation_none w d q (call.Close l) past named = refl
-operation_none w d q (call.Reset l a) past named = refl
-operation_none w d q (call.Execute p ls) past named =
-    pushes_none p.0 q (length w.queues) (operation.Execute (gathered d.lists (map (λ l. l.0) ls))) (list_all (λ l. nat_lt l.0 (length w.lists)) ls) past named
-operation_none w d q (call.Signal p f v) past named = pushes_none p.0 q (length w.queues) (operation.Signal f v) (nat_lt f.0 (length w.fences)) past named
-operation_none w d q (call.HostSignal f v) past named = refl
-operation_none w d q (call.HostWait f v) past named = refl
-operation_none w d q (call.Value f) past named = refl
-operation_none w d q (call.Write b offset ws) past named = refl
-operation_none w d q (call.Read b offset bytes) past named = refl
 
 called_none : (w : World) (s : State) (q : ℕ) (e : Event) → IsWorld w → length w.queues ≤ q → May SameButWords w s e → called_by w s.desk q e ≡ []
 called_none w s q (event.Call t c r) world past may =
-    ap (unless_refused (refusal w s.desk c)) (operation_none w s.desk q c past (next_is_named w s.desk t.0 c world may.1)) ∙ unless_none (refusal w s.desk c)
+    given_none w s.desk.lists q (does c).gives (refusal_by w s.desk.lists c) past (λ x is. gives_named w c x is (next_is_named w s.desk t.0 c world may.1))
 called_none w s q (event.Awake t) world past may = refl
 called_none w s q (event.Queue p) world past may = refl
 

@@ -10,8 +10,11 @@ use Rattle.d3d_machine.specs.declared.calls.Reply.TheVariants as reply
 use Rattle.d3d_machine.specs.declared.events.Event.{Event}
 use Rattle.d3d_machine.specs.declared.events.Event.TheVariants as event
 use Rattle.d3d_machine.specs.State.{Waiting, place_of, next_call}
+use Rattle.dx_base.specs.Effects.{unless}
+use Rattle.dx_base.proofs.Effects.{unless_refused}
+use Rattle.d3d_machine.specs.CallEffects.{does}
 use Rattle.d3d_machine.specs.Replies.{refusal, good_reply, reply_or, reply_of}
-use Rattle.d3d_machine.specs.Effects.{memory_or, written}
+use Rattle.d3d_machine.specs.Effects.{memory_by}
 use Rattle.d3d_machine.specs.Play.{IsRunButWords, state_after}
 use Rattle.d3d_machine.specs.Laws.{HasNoEffect}
 use Rattle.d3d_machine.proofs.Refusals.{not_good, refused_calls_have_no_effect}
@@ -29,7 +32,8 @@ by_refusal : (w : World) (h : List Event) (v : VkState) (t : ThreadId) (c : Call
 by_refusal w h v t c e None same is replies = absurd (not_good (seen_state w h v) c e replies)
 by_refusal w h v t c e (Some x) same is replies =
     let mine : List (List ℕ) = memory_of w v.words in
-    ap (λ o. let u : VkState = record v { words = device_words w (memory_or o (written c mine) mine) } in u) is
+    ap (λ o. let u : VkState = record v { words = device_words w (memory_by (unless (does c).stores o) mine) } in u) is
+    ∙ ap (λ o. let u : VkState = record v { words = device_words w (memory_by o mine) } in u) (unless_refused (does c).stores x)
     ∙ ap (λ ws. let u : VkState = record v { words = ws } in u) same
 
 of_call : (w : World) (h : List Event) (v : VkState) (t : ℕ) (o : Option Call) (u : ThreadId) (c : Call) (e : Hresult) → device_words w (memory_of w v.words) ≡ v.words →

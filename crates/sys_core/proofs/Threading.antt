@@ -15,8 +15,9 @@ use Rattle.d3d_machine.specs.declared.events.Event.TheVariants as event
 use Rattle.d3d_machine.specs.World.{is_named}
 use Rattle.d3d_machine.specs.State.{Place, place_of, opening_place, next_call, script_of}
 use Rattle.d3d_machine.specs.declared.calls.Reply.{Reply}
-use Rattle.d3d_machine.specs.Replies.{refusal, reply_or, good_reply, reply_of}
-use Rattle.d3d_machine.specs.Effects.{memory_or, written}
+use Rattle.d3d_machine.specs.CallEffects.{does}
+use Rattle.d3d_machine.specs.Replies.{refusal_by, refusal, reply_or, good_reply, reply_of}
+use Rattle.d3d_machine.specs.Effects.{done, memory_by}
 use Rattle.d3d_machine.specs.Play.{state_after}
 use Rattle.d3d_machine.proofs.Shape.{run_has_shape}
 use Rattle.d3d_machine.proofs.Named.{next_is_named}
@@ -33,7 +34,7 @@ use Rattle.sys_core.specs.Serving.{HasBuffers}
 use Rattle.sys_core.specs.Keeps.{Keeps, ready_by}
 use Rattle.sys_core.proofs.Buffers.{has_buffers}
 use Rattle.sys_core.proofs.Spread.{as_many, device_of_memory}
-use Rattle.sys_core.proofs.Calling.{refusal_is, good_alike}
+use Rattle.sys_core.proofs.Calling.{answer_alike}
 use Rattle.sys_core.proofs.Values.{values_are}
 use Rattle.sys_core.proofs.Keeping.{place_is, ready_is}
 
@@ -97,9 +98,9 @@ module _ {D : Type 0} (state : D → VkState) (plan_of : D → Option DevicePlan
 
   pub reply_seen : (c : Call) → reply_by w p.lists (map updates_in p.fences) (state d) c ≡ reply_of w (seen_state w h (state d)) c
   reply_seen c =
-      ap (λ r. reply_or r (good_reply (state_by w p.lists (map updates_in p.fences) (state d)) c)) (refusal_is w (state_after w h).desk p.lists c keeps.consistent.lists_are)
+      ap (λ ls. reply_or (refusal_by w ls c) (good_reply (state_by w p.lists (map updates_in p.fences) (state d)) c)) keeps.consistent.lists_are
       ∙ ap (reply_or (refusal w (state_after w h).desk c))
-      (good_alike c (state_by w p.lists (map updates_in p.fences) (state d)) (seen_state w h (state d)) (values_are w h (map updates_in p.fences) keeps.consistent.fences_are) refl)
+      (answer_alike (state_by w p.lists (map updates_in p.fences) (state d)) (seen_state w h (state d)) (does c).asks (does c).reads (values_are w h (map updates_in p.fences) keeps.consistent.fences_are) (λ _. refl))
 
   -- the event of a thread that makes its next call
   pub call_event_is : (t : ThreadId) (s : Seat) (c : Call) → slice_get p.seats t.0 ≡ Some s → s.waits ≡ None → slice_get (script_of w t.0) s.made ≡ Some c →
@@ -120,4 +121,4 @@ module _ {D : Type 0} (state : D → VkState) (plan_of : D → Option DevicePlan
   device_seen c t r =
       let vs : List (List ℕ) → VkState = λ ws. record (state d) { words = ws } in
       let mine : List (List ℕ) = memory_of w (state d).words in
-      ap (λ o. vs (device_words w (memory_or o (written c mine) mine))) (refusal_is w (state_after w h).desk p.lists c keeps.consistent.lists_are)
+      ap (λ ls. vs (device_words w (memory_by (done w ls c).stores mine))) keeps.consistent.lists_are

@@ -1,5 +1,5 @@
 -- A calm history is a run with its words.
-use Rattle.std.proofs.Common.{ℕ, zero, suc, ◌≡◌, ◌<◌, ◌+◌, ◌∙◌, sym, ap, subst, refl, List, [], ◌∷◌, ◌++◌, length, map, Some, None, Option, Bool, true, false, append-nil, slice_get, inl, inr, arith, ◌≤◌}
+use Rattle.std.proofs.Common.{ℕ, zero, suc, ◌≡◌, ◌<◌, ◌+◌, ◌∙◌, sym, ap, subst, refl, List, [], ◌∷◌, ◌++◌, length, map, Some, None, Option, Bool, true, false, is_some, ◌||◌, append-nil, slice_get, inl, inr, arith, ◌≤◌}
 use Rattle.std.proofs.lemmas.Bool.{cases_lt}
 use Rattle.std.specs.Prelude.{◌==◌, if◌then◌else◌}
 use Rattle.std.specs.List.{list_all}
@@ -7,7 +7,8 @@ use Rattle.dx_base.specs.declared.ids.ThreadId.{ThreadId}
 use Rattle.dx_base.specs.declared.hresult.Hresult.{Hresult}
 use Rattle.d3d_machine.specs.declared.world.World.{World}
 use Rattle.d3d_machine.specs.declared.calls.Call.{Call}
-use Rattle.d3d_machine.specs.declared.calls.Call.TheVariants as call
+use Rattle.dx_base.specs.Effects.{At}
+use Rattle.d3d_machine.specs.CallEffects.{does}
 use Rattle.d3d_machine.specs.declared.calls.Reply.{Reply}
 use Rattle.d3d_machine.specs.declared.events.Listed.{Listed}
 use Rattle.d3d_machine.specs.declared.events.Operation.{Operation}
@@ -15,8 +16,8 @@ use Rattle.d3d_machine.specs.declared.events.Event.{Event}
 use Rattle.d3d_machine.specs.declared.events.Event.TheVariants as event
 use Rattle.d3d_machine.specs.World.{IsWorld}
 use Rattle.d3d_machine.specs.State.{Desk, State, first_state, place_of, next_call, called_of}
-use Rattle.d3d_machine.specs.Replies.{refusal, reply_or, good_reply, reply_of}
-use Rattle.d3d_machine.specs.Effects.{after, after_all, memory_or, written}
+use Rattle.d3d_machine.specs.Replies.{refusal_by, refusal, reply_or, good_reply, reply_of}
+use Rattle.d3d_machine.specs.Effects.{after, after_all, done, memory_by}
 use Rattle.d3d_machine.specs.Play.{May, Plays, SameReply, SameButWords, IsRun, IsRunButWords, state_after}
 use Rattle.d3d_machine.specs.Operations.{operations, counter, called_by}
 use Rattle.d3d_machine.proofs.Operations.{operations_append}
@@ -29,14 +30,14 @@ use Rattle.vk_port.specs.After.{after_step, after_submit}
 use Rattle.vk_port.specs.Enabled.{enabled_steps}
 use Rattle.vk_port.specs.VkState.{VkState, lane_of}
 use Rattle.vk_port.specs.VkState as vulkan
-use Rattle.sys_core.specs.Parts.{desk_of, state_by, reply_by, device_by}
+use Rattle.sys_core.specs.Parts.{state_by, reply_by, device_by}
 use Rattle.sys_core.specs.Values.{last_of}
 use Rattle.sys_core.specs.Lowering.{plan_of_world, opening_batches, lowered_commands}
 use Rattle.sys_core.specs.Memory.{memory_of, device_words}
 use Rattle.sys_core.specs.Steps.{submitted_of, step_events, after_submits}
 use Rattle.sys_core.specs.Consistent.{IsDevice}
 use Rattle.sys_core.specs.Ahead.{IsAhead, IsQuiet, is_good_access, is_host_access, AreQuietFrom, AreHostAccessesQuiet, IsCalm, IsWhole}
-use Rattle.sys_core.proofs.Calling.{refusal_is, value_replied, good_alike, replies_alike}
+use Rattle.sys_core.proofs.Calling.{answer_alike, replies_alike}
 use Rattle.sys_core.proofs.Buffers.{same_sizes, memory_written}
 use Rattle.sys_core.proofs.Ahead.{device_within, called_now, drop_past, ahead_first, ahead_awake, idle_words}
 use Rattle.sys_core.proofs.NoQueue.{no_queue_event, no_queue_idle, quiet_words}
@@ -109,23 +110,15 @@ plays_last Same w s (d ∷ h) e plays = plays_last Same w (after w s d) h e play
 reply_alike : (r : Option Hresult) (c : Call) (s u : State) → s.desk.fences ≡ u.desk.fences → ((is_good_access r c ≡ true) → s.memory ≡ u.memory) →
     reply_or r (good_reply s c) ≡ reply_or r (good_reply u c)
 reply_alike (Some e) c s u values words = refl
-reply_alike None (call.Recording l what) s u values words = refl
-reply_alike None (call.Close l) s u values words = refl
-reply_alike None (call.Reset l a) s u values words = refl
-reply_alike None (call.Execute q ls) s u values words = refl
-reply_alike None (call.Signal q f v) s u values words = refl
-reply_alike None (call.HostSignal f v) s u values words = refl
-reply_alike None (call.HostWait f v) s u values words = refl
-reply_alike None (call.Value f) s u values words = value_replied f.0 s.desk u.desk values
-reply_alike None (call.Write b offset ws) s u values words = refl
-reply_alike None (call.Read b offset bytes) s u values words = good_alike (call.Read b offset bytes) s u values (words refl)
+reply_alike None c s u values words =
+    answer_alike s u (does c).asks (does c).reads values (λ reads. words (ap (λ b. b || is_some (does c).stores) reads))
 
 -- the reply by the fences' updates and the device's words is the machine's, where the device's words are the machine's
 -- at a host access
 pub reply_is : (w : World) (s : State) (lists : List Listed) (fences : List (List ℕ)) (v : VkState) (c : Call) → lists ≡ s.desk.lists → map last_of fences ≡ s.desk.fences →
     ((is_good_access (refusal w s.desk c) c ≡ true) → memory_of w v.words ≡ s.memory) → reply_by w lists fences v c ≡ reply_of w s c
 reply_is w s lists fences v c are values same =
-    ap (λ r. reply_or r (good_reply (state_by w lists fences v) c)) (refusal_is w s.desk lists c are)
+    ap (λ ls. reply_or (refusal_by w ls c) (good_reply (state_by w lists fences v) c)) are
     ∙ reply_alike (refusal w s.desk c) c (state_by w lists fences v) s values same
 
 -- a call with the reply by the device's words may come, with its words
@@ -147,12 +140,12 @@ words_call w h lists v t c r world run now device are quiet is =
       | inr none ↦
           let lanes : length v.lanes ≤ 0 = omega (arith, device.objects.lanes, none) in
           let m : List (List ℕ) = (state_after w h).memory in
-          let no : Option Hresult = refusal w (state_after w h).desk c in
+          let o : Option (At (ℕ × List ℕ)) = (done w (state_after w h).desk.lists c).stores in
           let mine : List (List ℕ) = memory_of w v.words in
           let same : mine ≡ m = idle_words w h v is (no_queue_idle w h v world run none lanes) in
-          no_queue_event w h (event.Call t c r) v (device_words w (memory_or (refusal w (desk_of lists) c) (written c mine) mine)) world now none lanes
-          (ap (λ o. memory_of w (device_words w (memory_or o (written c mine) mine))) (refusal_is w (state_after w h).desk lists c are)
-          ∙ memory_written w v no c device.objects ∙ ap (λ ws. memory_or no (written c ws) ws) same)
+          no_queue_event w h (event.Call t c r) v (device_words w (memory_by (done w lists c).stores mine)) world now none lanes
+          (ap (λ ls. memory_of w (device_words w (memory_by (done w ls c).stores mine))) are
+          ∙ memory_written w v o device.objects ∙ ap (memory_by o) same)
     ]
 
 words_awake : (w : World) (h : List Event) (v : VkState) (t : ThreadId) → IsWorld w → IsRunButWords w h → IsRunButWords w (h ++ event.Awake t ∷ []) → IsDevice w h v →

@@ -11,17 +11,20 @@ use Rattle.dx_base.specs.declared.ids.QueueId.{QueueId}
 use Rattle.dx_base.specs.declared.ids.ThreadId.{ThreadId}
 use Rattle.d3d_machine.specs.declared.world.World.{World}
 use Rattle.d3d_machine.specs.declared.calls.Call.{Call}
-use Rattle.d3d_machine.specs.declared.calls.Call.TheVariants as call
+use Rattle.d3d_machine.specs.declared.events.Listed.{Listed}
+use Rattle.dx_base.specs.Effects.{At, unless}
+use Rattle.d3d_machine.specs.CallEffects.{here_of, Task, executes, signals, does}
+use Rattle.d3d_machine.proofs.CallEffects.{waits_done}
 use Rattle.d3d_machine.specs.declared.calls.Reply.{Reply}
 use Rattle.d3d_machine.specs.declared.events.Operation.{Operation}
 use Rattle.d3d_machine.specs.declared.events.Operation.TheVariants as operation
 use Rattle.d3d_machine.specs.declared.events.Event.{Event}
 use Rattle.d3d_machine.specs.declared.events.Event.TheVariants as event
 use Rattle.d3d_machine.specs.State.{Waiting, Place, Desk, State, first_state, place_of, script_of, next_call}
-use Rattle.d3d_machine.specs.Replies.{refusal}
-use Rattle.d3d_machine.specs.Effects.{gathered, marked_option, marked_place, desk_after_operation, dropped, head_of}
+use Rattle.d3d_machine.specs.Replies.{refusal_by}
+use Rattle.d3d_machine.specs.Effects.{operation_of, operation_given, done, marked_option, marked_place, desk_after_operation, dropped, head_of}
 use Rattle.d3d_machine.specs.Play.{state_after}
-use Rattle.d3d_machine.specs.Operations.{operation_of, unless_refused, called_by, operations}
+use Rattle.d3d_machine.specs.Operations.{called_by, operations}
 use Rattle.d3d_machine.proofs.Operations.{operations_append}
 use Rattle.d3d_machine.proofs.Places.{place_in, kept_map, scripted}
 use Rattle.d3d_machine.proofs.Runs.{state_after_append}
@@ -39,9 +42,9 @@ use Rattle.vk_port.specs.VkState.{VkState}
 use Rattle.vk_port.proofs.Falls.{falls, submit_left}
 use Rattle.sys_core.specs.Lowering.{lowered_commands, lower_record, trailing}
 use Rattle.sys_core.specs.Steps.{submitted_of, step_events}
-use Rattle.sys_core.specs.Work.{call_weight, operation_weight, calls_work, operations_work, wait_work, place_work, threads_work, sum_from, queue_work, held_work, work}
+use Rattle.sys_core.specs.Work.{task_weight, given_weight, begun_weight, call_weight, operation_weight, calls_work, operations_work, wait_work, place_work, threads_work, sum_from, queue_work, held_work, work}
 use Rattle.sys_core.proofs.Holding.{drop_here}
-use Rattle.sys_core.proofs.Seating.{call_place, marked_by, signal_in, threads_after_call}
+use Rattle.sys_core.proofs.Seating.{call_place, marked_by, threads_after_call}
 use Rattle.sys_core.proofs.Standing.{of_queue_append}
 
 -- a sum of numbers none of which grew
@@ -114,76 +117,23 @@ operations_more zero (x ∷ xs) ys = omega (arith, operations_more zero xs ys)
 operations_more (suc n) [] ys = omega (arith, dropped_less (suc n) ys)
 operations_more (suc n) (x ∷ xs) ys = operations_more n xs ys
 
--- the work of the operation that a call gives a queue, at most
-abbrev given_by : Call → ℕ
-given_by (call.Recording l what) = 0
-given_by (call.Close l) = 0
-given_by (call.Reset l a) = 0
-given_by (call.Execute q ls) = 5 + 1024 * length ls
-given_by (call.Signal q f v) = 3
-given_by (call.HostSignal f v) = 0
-given_by (call.HostWait f v) = 0
-given_by (call.Value f) = 0
-given_by (call.Write b offset ws) = 0
-given_by (call.Read b offset bytes) = 0
-
--- the work of the wait that a call begins
-abbrev begun_by : Call → ℕ
-begun_by (call.Recording l what) = 0
-begun_by (call.Close l) = 0
-begun_by (call.Reset l a) = 0
-begun_by (call.Execute q ls) = 0
-begun_by (call.Signal q f v) = 0
-begun_by (call.HostSignal f v) = 0
-begun_by (call.HostWait f v) = 1
-begun_by (call.Value f) = 0
-begun_by (call.Write b offset ws) = 0
-begun_by (call.Read b offset bytes) = 0
-
--- a call weighs more than what it causes
-call_pays : (c : Call) → given_by c + begun_by c < call_weight c
-call_pays (call.Recording l what) = omega arith
-call_pays (call.Close l) = omega arith
-call_pays (call.Reset l a) = omega arith
-call_pays (call.Execute q ls) = omega arith
-call_pays (call.Signal q f v) = omega arith
-call_pays (call.HostSignal f v) = omega arith
-call_pays (call.HostWait f v) = omega arith
-call_pays (call.Value f) = omega arith
-call_pays (call.Write b offset ws) = omega arith
-call_pays (call.Read b offset bytes) = omega arith
-
--- the queue to which a call gives an operation
-abbrev queue_of : Call → ℕ
-queue_of (call.Recording l what) = 0
-queue_of (call.Close l) = 0
-queue_of (call.Reset l a) = 0
-queue_of (call.Execute q ls) = q.0
-queue_of (call.Signal q f v) = q.0
-queue_of (call.HostSignal f v) = 0
-queue_of (call.HostWait f v) = 0
-queue_of (call.Value f) = 0
-queue_of (call.Write b offset ws) = 0
-queue_of (call.Read b offset bytes) = 0
+-- the queue that is given a task
+abbrev queue_of : Option (At Task) → ℕ
+queue_of None = 0
+queue_of (Some x) = x.place
 
 given_at_most : (b : Bool) (o : Operation) → operations_work (if b then o ∷ [] else []) ≤ operation_weight o
 given_at_most true o = omega arith
 given_at_most false o = omega arith
 
-operation_few : (w : World) (h : List Event) (q : ℕ) (c : Call) → operations_work (operation_of (state_after w h).desk q c) ≤ given_by c
-operation_few w h q (call.Recording l what) = omega arith
-operation_few w h q (call.Close l) = omega arith
-operation_few w h q (call.Reset l a) = omega arith
-operation_few w h q (call.Execute p ls) =
-    let cs = gathered (state_after w h).desk.lists (map (λ l. l.0) ls) in
-    let few : length cs ≤ 1024 * length ls = commands_are_few w h ls in
-    omega (arith, few, given_at_most (p.0 == q) (operation.Execute cs))
-operation_few w h q (call.Signal p f v) = given_at_most (p.0 == q) (operation.Signal f v)
-operation_few w h q (call.HostSignal f v) = omega arith
-operation_few w h q (call.HostWait f v) = omega arith
-operation_few w h q (call.Value f) = omega arith
-operation_few w h q (call.Write b offset ws) = omega arith
-operation_few w h q (call.Read b offset bytes) = omega arith
+task_few : (w : World) (h : List Event) (k : Task) → operation_weight (operation_of (state_after w h).desk.lists k) ≤ task_weight k
+task_few w h (executes ls) = omega (arith, commands_are_few w h ls)
+task_few w h (signals f v) = omega arith
+
+operation_few : (w : World) (h : List Event) (q : ℕ) (o : Option (At Task)) → operations_work (here_of q (operation_given (state_after w h).desk.lists o)) ≤ given_weight o
+operation_few w h q None = omega arith
+operation_few w h q (Some x) =
+    omega (arith, given_at_most (x.place == q) (operation_of (state_after w h).desk.lists x.what), task_few w h x.what)
 
 given_elsewhere : (p q : ℕ) (o : Operation) → q ≢ p → operations_work (if (p == q) then o ∷ [] else []) ≡ 0
 given_elsewhere p q o other =
@@ -192,21 +142,14 @@ given_elsewhere p q o other =
       | inr differs ↦ ap (λ (b : Bool). operations_work (if b then o ∷ [] else [])) differs.0
     ]
 
-operation_none : (d : Desk) (q : ℕ) (c : Call) → q ≢ queue_of c → operations_work (operation_of d q c) ≡ 0
-operation_none d q (call.Recording l what) other = refl
-operation_none d q (call.Close l) other = refl
-operation_none d q (call.Reset l a) other = refl
-operation_none d q (call.Execute p ls) other = given_elsewhere p.0 q (operation.Execute (gathered d.lists (map (λ l. l.0) ls))) other
-operation_none d q (call.Signal p f v) other = given_elsewhere p.0 q (operation.Signal f v) other
-operation_none d q (call.HostSignal f v) other = refl
-operation_none d q (call.HostWait f v) other = refl
-operation_none d q (call.Value f) other = refl
-operation_none d q (call.Write b offset ws) other = refl
-operation_none d q (call.Read b offset bytes) other = refl
+operation_none : (lists : List Listed) (q : ℕ) (o : Option (At Task)) → q ≢ queue_of o → operations_work (here_of q (operation_given lists o)) ≡ 0
+operation_none lists q None other = refl
+operation_none lists q (Some x) other = given_elsewhere x.place q (operation_of lists x.what) other
 
-refused_less : (r : Option Hresult) (os : List Operation) → operations_work (unless_refused r os) ≤ operations_work os
-refused_less None os = omega arith
-refused_less (Some e) os = omega arith
+refused_less : (o : Option (At Task)) (r : Option Hresult) → given_weight (unless o r) ≤ given_weight o
+refused_less None r = omega arith
+refused_less (Some x) None = omega arith
+refused_less (Some x) (Some e) = omega arith
 
 -- a queue's work grows by what an event calls on it, at most
 queue_event : (w : World) (h : List Event) (e : Event) (v u : VkState) (q : ℕ) → u.journal ≡ v.journal →
@@ -221,28 +164,22 @@ queue_event w h e v u q journal =
 
 -- the queues' work after a call
 held_call : (w : World) (h : List Event) (t : ThreadId) (c : Call) (r : Reply) (v u : VkState) → u.journal ≡ v.journal →
-    held_work w (h ++ event.Call t c r ∷ []) u ≤ held_work w h v + given_by c
+    held_work w (h ++ event.Call t c r ∷ []) u ≤ held_work w h v + given_weight (does c).gives
 held_call w h t c r v u journal =
-    let d : Desk = (state_after w h).desk in
+    let lists : List Listed = (state_after w h).desk.lists in
     let e : Event = event.Call t c r in
-    let given : (q : ℕ) → operations_work (called_by w d q e) ≤ operations_work (operation_of d q c) = λ q. refused_less (refusal w d c) (operation_of d q c) in
-    sum_more (queue_work w h v) (queue_work w (h ++ e ∷ []) u) (queue_of c) (given_by c) 0 (length w.queues)
-    (λ q other. omega (arith, queue_event w h e v u q journal, given q, operation_none d q c other))
-    (omega (arith, queue_event w h e v u (queue_of c) journal, given (queue_of c), operation_few w h (queue_of c) c))
+    let o : Option (At Task) = (done w lists c).gives in
+    let more : held_work w (h ++ e ∷ []) u ≤ held_work w h v + given_weight o =
+    sum_more (queue_work w h v) (queue_work w (h ++ e ∷ []) u) (queue_of o) (given_weight o) 0 (length w.queues)
+    (λ q other. omega (arith, queue_event w h e v u q journal, operation_none lists q o other))
+    (omega (arith, queue_event w h e v u (queue_of o) journal, operation_few w h (queue_of o) o)) in
+    omega (arith, more, refused_less (does c).gives (refusal_by w lists c))
 
 -- a thread's work after its next call
-place_called : (d : Desk) (c : Call) (script : List Call) (p : Place) → calls_work (drop p.made script) ≡ call_weight c + calls_work (drop (p.made + 1) script) →
-    place_work script (call_place d c p) + call_weight c ≤ place_work script p + begun_by c
-place_called d (call.Recording l what) script p paid = omega (arith, paid)
-place_called d (call.Close l) script p paid = omega (arith, paid)
-place_called d (call.Reset l a) script p paid = omega (arith, paid)
-place_called d (call.Execute q ls) script p paid = omega (arith, paid)
-place_called d (call.Signal q f v) script p paid = omega (arith, paid)
-place_called d (call.HostSignal f v) script p paid = omega (arith, paid)
-place_called d (call.HostWait f v) script p paid = omega (arith, paid)
-place_called d (call.Value f) script p paid = omega (arith, paid)
-place_called d (call.Write b offset ws) script p paid = omega (arith, paid)
-place_called d (call.Read b offset bytes) script p paid = omega (arith, paid)
+place_called : (d : Desk) (c : Call) (o : Option (At ℕ)) (script : List Call) (p : Place) → calls_work (drop p.made script) ≡ call_weight c + calls_work (drop (p.made + 1) script) →
+    place_work script (call_place d o p) + call_weight c ≤ place_work script p + begun_weight o
+place_called d c None script p paid = omega (arith, paid)
+place_called d c (Some x) script p paid = omega (arith, paid)
 
 wait_marked : (f v : ℕ) (o : Option Waiting) → wait_work (marked_option f v o) ≡ wait_work o
 wait_marked f v None = refl
@@ -251,42 +188,41 @@ wait_marked f v (Some x) = refl
 place_marked : (f v : ℕ) (script : List Call) (p : Place) → place_work script (marked_place f v p) ≡ place_work script p
 place_marked f v script p = ap (λ n. calls_work (drop p.made script) + n) (wait_marked f v p.waits)
 
--- a signal leaves the work of the threads whose waits it meets
-place_signalled : (o : Option Operation) (script : List Call) (p : Place) → place_work script (marked_by o p) ≡ place_work script p
+-- a value that a fence takes leaves the work of the threads whose waits it meets
+place_signalled : (o : Option (At ℕ)) (script : List Call) (p : Place) → place_work script (marked_by o p) ≡ place_work script p
 place_signalled None script p = refl
-place_signalled (Some (operation.Execute cs)) script p = refl
-place_signalled (Some (operation.Signal f v)) script p = place_marked f.0 v script p
+place_signalled (Some x) script p = place_marked x.place x.what script p
 
-made_signalled : (o : Option Operation) (p : Place) → (marked_by o p).made ≡ p.made
+made_signalled : (o : Option (At ℕ)) (p : Place) → (marked_by o p).made ≡ p.made
 made_signalled None p = refl
-made_signalled (Some (operation.Execute cs)) p = refl
-made_signalled (Some (operation.Signal f v)) p = refl
+made_signalled (Some x) p = refl
 
 -- the threads' work after a call
 threads_called : (w : World) (h : List Event) (t : ThreadId) (c : Call) (r : Reply) → next_call w (state_after w h).desk t.0 ≡ Some c →
-    threads_work w.scripts (state_after w (h ++ event.Call t c r ∷ [])).desk.threads + call_weight c ≤ threads_work w.scripts (state_after w h).desk.threads + begun_by c
+    threads_work w.scripts (state_after w (h ++ event.Call t c r ∷ [])).desk.threads + call_weight c ≤ threads_work w.scripts (state_after w h).desk.threads + begun_weight (does c).waits
 threads_called w h t c r next =
     let d : Desk = (state_after w h).desk in
-    let o : Option Operation = signal_in c in
+    let o : Option (At ℕ) = (done w d.lists c).sets in
+    let x : Option (At ℕ) = (done w d.lists c).waits in
     let places : List Place = map (marked_by o) d.threads in
     let p : Place = place_in places t.0 in
     let script : List Call = script_of w t.0 in
-    let threads : (state_after w (h ++ event.Call t c r ∷ [])).desk.threads ≡ changed_at (call_place d c) t.0 places =
+    let threads : (state_after w (h ++ event.Call t c r ∷ [])).desk.threads ≡ changed_at (call_place d x) t.0 places =
     ap (λ (s : State). s.desk.threads) (state_after_append w h (event.Call t c r)) ∙ threads_after_call w d t.0 c in
     let made : p.made ≡ (place_of d t.0).made = kept_map (λ x. x.made) (marked_by o) (made_signalled o) d.threads t.0 in
     let inside : t.0 < length w.scripts = scripted w.scripts t.0 (place_of d t.0).made c next in
     let placed : t.0 < length places = omega (arith, inside, (run_has_shape w h).desk.threads, length-map d.threads (marked_by o)) in
     let paid : calls_work (drop p.made script) ≡ call_weight c + calls_work (drop (p.made + 1) script) =
     subst (λ m. calls_work (drop m script) ≡ call_weight c + calls_work (drop (m + 1) script)) (sym made) (ap calls_work (drop_here (place_of d t.0).made script c next)) in
-    let less : threads_work w.scripts (changed_at (call_place d c) t.0 places) + call_weight c ≤ threads_work w.scripts places + begun_by c =
-    threads_changed (call_place d c) w.scripts places t.0 (call_weight c) (begun_by c) inside placed (place_called d c script p paid) in
-    omega (arith, ap (threads_work w.scripts) threads, less, threads_mapped (marked_by o) (place_signalled o) w.scripts d.threads)
+    let less : threads_work w.scripts (changed_at (call_place d x) t.0 places) + call_weight c ≤ threads_work w.scripts places + begun_weight x =
+    threads_changed (call_place d x) w.scripts places t.0 (call_weight c) (begun_weight x) inside placed (place_called d c x script p paid) in
+    omega (arith, ap (threads_work w.scripts) threads, less, ap begun_weight (waits_done w d.lists c), threads_mapped (marked_by o) (place_signalled o) w.scripts d.threads)
 
 -- a call leaves less work
 pub call_falls : (w : World) (h : List Event) (v u : VkState) (t : ThreadId) (c : Call) (r : Reply) → next_call w (state_after w h).desk t.0 ≡ Some c →
     u.journal ≡ v.journal → u.lanes ≡ v.lanes → work w (h ++ event.Call t c r ∷ []) u < work w h v
 call_falls w h v u t c r next journal lanes =
-    omega (arith, threads_called w h t c r next, held_call w h t c r v u journal, call_pays c, ap lanes_left lanes)
+    omega (arith, threads_called w h t c r next, held_call w h t c r v u journal, ap lanes_left lanes)
 
 -- the queues' work after an event that calls nothing
 held_quiet : (w : World) (h : List Event) (e : Event) (v u : VkState) → ((q : ℕ) → called_by w (state_after w h).desk q e ≡ []) → u.journal ≡ v.journal →

@@ -11,7 +11,6 @@ use Rattle.dx_base.specs.declared.hresult.Hresult.{Hresult}
 use Rattle.dx_base.proofs.Lists.{map_write}
 use Rattle.d3d_machine.specs.declared.world.World.{World}
 use Rattle.d3d_machine.specs.declared.calls.Call.{Call}
-use Rattle.d3d_machine.specs.declared.calls.Call.TheVariants as call
 use Rattle.d3d_machine.specs.declared.events.Operation.{Operation}
 use Rattle.d3d_machine.specs.declared.events.Operation.TheVariants as operation
 use Rattle.d3d_machine.specs.declared.events.Event.{Event}
@@ -19,7 +18,9 @@ use Rattle.d3d_machine.specs.declared.events.Event.TheVariants as event
 use Rattle.d3d_machine.specs.State.{Desk, State, first_state}
 use Rattle.d3d_machine.specs.Replies.{refusal}
 use Rattle.d3d_machine.specs.Effects.{after, gathered}
-use Rattle.d3d_machine.specs.Operations.{operations, operations_from, called_by, operation_of, unless_refused}
+use Rattle.dx_base.specs.Effects.{At}
+use Rattle.d3d_machine.specs.CallEffects.{here_of}
+use Rattle.d3d_machine.specs.Operations.{operations, operations_from, event_gives, called_by}
 use Rattle.d3d_machine.specs.Good.{is_good_operation}
 use Rattle.d3d_machine.proofs.Good.{operations_are_good}
 use Rattle.d3d_machine.proofs.Named.{all_at}
@@ -47,29 +48,15 @@ one_at_most : (b : Bool) (o : Operation) → length (if b then o ∷ [] else [])
 one_at_most true o = omega arith
 one_at_most false o = omega arith
 
-call_gives : (r : Option Hresult) (d : Desk) (q : ℕ) (c : Call) → length (unless_refused r (operation_of d q c)) ≤ 1
-call_gives (Some e) d q c = omega arith
-call_gives None d q (call.Recording l what) = omega arith
-call_gives None d q (call.Close l) = omega arith
-call_gives None d q (call.Reset l a) = omega arith
-call_gives None d q (call.Execute p ls) = one_at_most (p.0 == q) (operation.Execute (gathered d.lists (map (λ l. l.0) ls)))
-call_gives None d q (call.Signal p f v) = one_at_most (p.0 == q) (operation.Signal f v)
-call_gives None d q (call.HostSignal f v) = omega arith
-call_gives None d q (call.HostWait f v) = omega arith
-call_gives None d q (call.Value f) = omega arith
-call_gives None d q (call.Write b o ws) = omega arith
-call_gives None d q (call.Read b o n) = omega arith
-
-event_gives : (w : World) (d : Desk) (q : ℕ) (e : Event) → length (called_by w d q e) ≤ 1
-event_gives w d q (event.Call t c r) = call_gives (refusal w d c) d q c
-event_gives w d q (event.Awake t) = omega arith
-event_gives w d q (event.Queue p) = omega arith
+at_most_one : (q : ℕ) (o : Option (At Operation)) → length (here_of q o) ≤ 1
+at_most_one q None = omega arith
+at_most_one q (Some x) = one_at_most (x.place == q) x.what
 
 -- there are no more operations than events
 operations_few : (w : World) (s : State) (q : ℕ) (h : List Event) → length (operations_from w s q h) ≤ length h
 operations_few w s q [] = omega arith
 operations_few w s q (e ∷ h) =
-    omega (arith, length-append (called_by w s.desk q e) (operations_from w (after w s e) q h), event_gives w s.desk q e, operations_few w (after w s e) q h)
+    omega (arith, length-append (called_by w s.desk q e) (operations_from w (after w s e) q h), at_most_one q (event_gives w s.desk e), operations_few w (after w s e) q h)
 
 -- a queue's next operation
 pub record IsNext (w : World) (h : List Event) (v : VkState) (q : ℕ) (y : Held) (o : Operation) : Type 0 where

@@ -1,10 +1,10 @@
 -- The device's words with what it has yet to do, and the machine's memory with what it has yet to complete.
-use Rattle.std.specs.Prelude.{ℕ, ◌≡◌, List, [], ◌∷◌, ◌++◌, drop, Option, Some, None, Bool, true, false}
+use Rattle.std.specs.Prelude.{ℕ, ◌≡◌, List, [], ◌∷◌, ◌++◌, drop, Option, Some, None, Bool, true, false, is_some, ◌||◌}
 use Rattle.std.specs.List.{list_all}
 use Rattle.dx_base.specs.declared.hresult.Hresult.{Hresult}
 use Rattle.d3d_machine.specs.declared.world.World.{World}
 use Rattle.d3d_machine.specs.declared.calls.Call.{Call}
-use Rattle.d3d_machine.specs.declared.calls.Call.TheVariants as call
+use Rattle.d3d_machine.specs.CallEffects.{does}
 use Rattle.d3d_machine.specs.declared.events.Operation.{Operation}
 use Rattle.d3d_machine.specs.declared.events.Event.{Event}
 use Rattle.d3d_machine.specs.declared.events.Event.TheVariants as event
@@ -55,16 +55,7 @@ pub record IsQuiet (s : State) : Type 0 where
 
 -- a call reads or writes a buffer
 abbrev pub is_access : Call → Bool
-is_access (call.Recording l what) = false
-is_access (call.Close l) = false
-is_access (call.Reset l a) = false
-is_access (call.Execute q ls) = false
-is_access (call.Signal q f v) = false
-is_access (call.HostSignal f v) = false
-is_access (call.HostWait f v) = false
-is_access (call.Value f) = false
-is_access (call.Write b offset ws) = true
-is_access (call.Read b offset bytes) = true
+is_access c = is_some (does c).reads || is_some (does c).stores
 
 -- a call reads or writes a buffer, and is not refused
 abbrev pub is_good_access : Option Hresult → Call → Bool

@@ -2,17 +2,17 @@
 use Rattle.std.specs.Prelude.{ℕ, ◌≡◌, ◌≤◌, ◌+◌, ◌-◌, ◌==◌, List, [], ◌∷◌, ◌++◌, length, map, drop, slice_get, slice_index_or, Option, Some, None, Bool, if◌then◌else◌}
 use Rattle.dx_base.specs.Lists.{changed_at}
 use Rattle.dx_base.specs.Roomy.{Roomy}
-use Rattle.dx_base.specs.declared.hresult.Hresult.{Hresult}
+use Rattle.dx_base.specs.Effects.{At, changed_by}
 use Rattle.d3d_machine.specs.declared.world.World.{World}
 use Rattle.d3d_machine.specs.declared.calls.Call.{Call}
-use Rattle.d3d_machine.specs.declared.calls.Call.TheVariants as call
 use Rattle.d3d_machine.specs.declared.calls.Reply.{Reply}
 use Rattle.d3d_machine.specs.declared.events.Listed.{Listed}
 use Rattle.d3d_machine.specs.declared.events.Operation.{Operation}
 use Rattle.d3d_machine.specs.declared.events.Operation.TheVariants as operation
-use Rattle.d3d_machine.specs.State.{Desk, State}
-use Rattle.d3d_machine.specs.Replies.{refusal, reply_or, good_reply}
-use Rattle.d3d_machine.specs.Effects.{gathered, desk_after_call, memory_or, written}
+use Rattle.d3d_machine.specs.CallEffects.{does}
+use Rattle.d3d_machine.specs.State.{State}
+use Rattle.d3d_machine.specs.Replies.{refusal_by, reply_or, good_reply}
+use Rattle.d3d_machine.specs.Effects.{with_one, operation_given, changed, memory_by, done}
 use Rattle.d3d_machine.specs.Fences.{is_met}
 use Rattle.vk_port.specs.VkState.{VkState}
 use Rattle.sys_core.specs.declared.parts.Armed.{Armed}
@@ -46,79 +46,45 @@ queued x = record { operations = x.operations.items; submitted = x.submitted; la
 abbrev pub updates_in : Roomy ℕ → List ℕ
 updates_in r = r.items
 
--- a desk that has these lists and nothing else
-abbrev pub desk_of : List Listed → Desk
-desk_of lists = record { fences = []; called = []; lists = lists; threads = [] }
-
 -- the state that the lists, the fences' last updates and the device's words give
 abbrev pub state_by : World → List Listed → List (List ℕ) → VkState → State
 state_by w lists fences v = record { desk = record { fences = map last_of fences; called = []; lists = lists; threads = [] }; memory = memory_of w v.words }
 
 -- the reply of a call, by the lists, the fences' last updates and the device's words
 abbrev pub reply_by : World → List Listed → List (List ℕ) → VkState → Call → Reply
-reply_by w lists fences v c = reply_or (refusal w (desk_of lists) c) (good_reply (state_by w lists fences v) c)
+reply_by w lists fences v c = reply_or (refusal_by w lists c) (good_reply (state_by w lists fences v) c)
 
 -- the lists after a call
 abbrev pub lists_by : World → List Listed → Call → List Listed
-lists_by w lists c = (desk_after_call w (desk_of lists) 0 c).lists
+lists_by w lists c = changed_by (changed w) (done w lists c).list lists
 
 -- the device after a call: a host write that is not refused stores its words
 abbrev pub device_by : World → List Listed → VkState → Call → VkState
-device_by w lists v c = record v { words = device_words w (memory_or (refusal w (desk_of lists) c) (written c (memory_of w v.words)) (memory_of w v.words)) }
+device_by w lists v c = record v { words = device_words w (memory_by (done w lists c).stores (memory_of w v.words)) }
 
 -- the queue with one more operation
 abbrev pub with_operation : Operation → Queued → Queued
 with_operation o x = record x { operations = x.operations ++ o ∷ [] }
 
-abbrev pub pushes : List Listed → Call → List Queued → List Queued
-pushes lists (call.Recording l what) held = held
-pushes lists (call.Close l) held = held
-pushes lists (call.Reset l a) held = held
-pushes lists (call.Execute q ls) held = changed_at (with_operation (operation.Execute (gathered lists (map (λ l. l.0) ls)))) q.0 held
-pushes lists (call.Signal q f v) held = changed_at (with_operation (operation.Signal f v)) q.0 held
-pushes lists (call.HostSignal f v) held = held
-pushes lists (call.HostWait f v) held = held
-pushes lists (call.Value f) held = held
-pushes lists (call.Write b o ws) held = held
-pushes lists (call.Read b o n) held = held
-
-abbrev pub held_or : Option Hresult → List Queued → List Queued → List Queued
-held_or None good bad = good
-held_or (Some e) good bad = bad
-
 -- the queues after a call
 abbrev pub held_by : World → List Listed → Call → List Queued → List Queued
-held_by w lists c held = held_or (refusal w (desk_of lists) c) (pushes lists c held) held
+held_by w lists c held = changed_by with_operation (operation_given lists (done w lists c).gives) held
 
 -- the fences' updates after a call: a host signal gives its fence one more
-abbrev pub fences_by : Call → List (List ℕ) → List (List ℕ)
-fences_by (call.Recording l what) fences = fences
-fences_by (call.Close l) fences = fences
-fences_by (call.Reset l a) fences = fences
-fences_by (call.Execute q ls) fences = fences
-fences_by (call.Signal q f v) fences = fences
-fences_by (call.HostSignal f v) fences = changed_at (λ us. us ++ v ∷ []) f.0 fences
-fences_by (call.HostWait f v) fences = fences
-fences_by (call.Value f) fences = fences
-fences_by (call.Write b o ws) fences = fences
-fences_by (call.Read b o n) fences = fences
+abbrev pub fences_by : World → List Listed → Call → List (List ℕ) → List (List ℕ)
+fences_by w lists c fences = changed_by with_one (done w lists c).sets fences
 
 -- the applied updates of a fence
 abbrev pub updates_at : List (List ℕ) → ℕ → List ℕ
 updates_at fences f = slice_index_or fences f []
 
+abbrev pub armed_or : List (List ℕ) → Option (At ℕ) → Option Armed → Option Armed
+armed_or fences None o = o
+armed_or fences (Some x) o = Some (record { fence = record { 0 = x.place }; value = x.what; since = length (updates_at fences x.place) - 1 })
+
 -- the wait of a thread after a call
 abbrev pub armed_after : List (List ℕ) → Call → Option Armed → Option Armed
-armed_after fences (call.Recording l what) o = o
-armed_after fences (call.Close l) o = o
-armed_after fences (call.Reset l a) o = o
-armed_after fences (call.Execute q ls) o = o
-armed_after fences (call.Signal q f v) o = o
-armed_after fences (call.HostSignal f v) o = o
-armed_after fences (call.HostWait f v) o = Some (record { fence = f; value = v; since = length (updates_at fences f.0) - 1 })
-armed_after fences (call.Value f) o = o
-armed_after fences (call.Write b n ws) o = o
-armed_after fences (call.Read b n k) o = o
+armed_after fences c o = armed_or fences (does c).waits o
 
 -- the place of a thread after a call
 abbrev pub seat_after : List (List ℕ) → Call → Seat → Seat

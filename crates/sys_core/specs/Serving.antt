@@ -23,7 +23,7 @@ pub record HasBuffers (w : World) (v : VkState) : Type 0 where
 pub record Serves (w : World) (c : Call) (old new : Parts) : Type 0 where
   pub lists : new.lists ≡ lists_by w old.lists c
   pub seats : new.seats ≡ old.seats
-  pub fences : map updates_in new.fences ≡ fences_by c (map updates_in old.fences)
+  pub fences : map updates_in new.fences ≡ fences_by w old.lists c (map updates_in old.fences)
   pub held : map queued new.held ≡ held_by w old.lists c (map queued old.held)
   pub numbers : new.numbers ≡ old.numbers
 

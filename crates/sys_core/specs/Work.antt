@@ -2,10 +2,11 @@
 use Rattle.std.specs.Prelude.{ℕ, zero, suc, ◌+◌, ◌*◌, List, [], ◌∷◌, length, drop, Option, Some, None}
 use Rattle.d3d_machine.specs.declared.world.World.{World}
 use Rattle.d3d_machine.specs.declared.calls.Call.{Call}
-use Rattle.d3d_machine.specs.declared.calls.Call.TheVariants as call
 use Rattle.d3d_machine.specs.declared.events.Operation.{Operation}
 use Rattle.d3d_machine.specs.declared.events.Operation.TheVariants as operation
 use Rattle.d3d_machine.specs.declared.events.Event.{Event}
+use Rattle.dx_base.specs.Effects.{At}
+use Rattle.d3d_machine.specs.CallEffects.{Task, executes, signals, does}
 use Rattle.d3d_machine.specs.State.{Waiting, Place}
 use Rattle.d3d_machine.specs.Play.{state_after}
 use Rattle.d3d_machine.specs.Operations.{operations}
@@ -13,19 +14,24 @@ use Rattle.vk_port.specs.Left.{steps_left}
 use Rattle.vk_port.specs.VkState.{VkState}
 use Rattle.sys_core.specs.Steps.{submitted_of}
 
--- the steps that a call can cause: the call itself, and those of its operation or of its wait; a list has at
--- most 1024 commands
+-- the steps of the operation that a task is, at most: a list has at most 1024 commands
+abbrev pub task_weight : Task → ℕ
+task_weight (executes ls) = 5 + 1024 * length ls
+task_weight (signals f v) = 3
+
+-- the steps of the operation that a call gives a queue, at most
+abbrev pub given_weight : Option (At Task) → ℕ
+given_weight None = 0
+given_weight (Some x) = task_weight x.what
+
+-- the steps of the wait that a call begins
+abbrev pub begun_weight : Option (At ℕ) → ℕ
+begun_weight None = 0
+begun_weight (Some x) = 1
+
+-- the steps that a call can cause: the call itself, and those of its operation and of its wait
 abbrev pub call_weight : Call → ℕ
-call_weight (call.Recording l what) = 1
-call_weight (call.Close l) = 1
-call_weight (call.Reset l a) = 1
-call_weight (call.Execute q ls) = 6 + 1024 * length ls
-call_weight (call.Signal q f v) = 4
-call_weight (call.HostSignal f v) = 1
-call_weight (call.HostWait f v) = 2
-call_weight (call.Value f) = 1
-call_weight (call.Write b offset ws) = 1
-call_weight (call.Read b offset bytes) = 1
+call_weight c = 1 + (given_weight (does c).gives + begun_weight (does c).waits)
 
 -- the steps of an operation: its submission, the pass and the end of its batch, and its batch's commands, which
 -- for an execute are two barriers and its own

@@ -14,14 +14,13 @@ use Rattle.d3d_machine.specs.declared.events.Operation.TheVariants as operation
 use Rattle.d3d_machine.specs.State.{Desk}
 use Rattle.d3d_machine.specs.World.{is_upload, is_inside, words_in}
 use Rattle.d3d_machine.specs.Replies.{refusal, refuse_if}
-use Rattle.d3d_machine.specs.Effects.{desk_after, desk_after_call, counted, woken}
-use Rattle.d3d_machine.specs.Operations.{operation_of, unless_refused}
+use Rattle.d3d_machine.specs.Effects.{operation_given, done, desk_after, desk_after_call, woken}
+use Rattle.d3d_machine.specs.CallEffects.{here_of}
 use Rattle.d3d_machine.specs.Play.{is_marked}
 use Rattle.sys_core.specs.Ahead.{is_access}
 use Rattle.sys_core.specs.InOrder.{is_single}
 use Rattle.trace_runner.specs.Rounds.{Round, calls_of, world_with}
 use Rattle.trace_runner.specs.Moments.{Flight, Both, Last, Neither, Moment, Between, Written, Begun, Recorded, Ended, Executed, Signalled, Waits, Woken, from_write, left_at, next_at, signals, after_call, less, after_queue, after_awake, value_in, called_busy, execute_copy, called_in, called_at, is_through, waits_at, desk_at, IsRising}
-use Rattle.d3d_machine.proofs.Served.{desk_same}
 
 -- a fact of the next call, where there is one
 abbrev pub OnNext : (Call → Type 0) → Option Call → Type 0
@@ -46,9 +45,7 @@ marked_desk n v r rs f b =
 
 write_call : (calls : List Call) (n : ℕ) (first : Bool) (v : ℕ) (r : Round) (rs : List Round) →
     desk_after_call (world_with calls) (desk_at n (Between first v (r ∷ rs))) 0 (call.Write (record { 0 = 0 }) 0 r.words) ≡ desk_at (n + 1) (Written first v r rs)
-write_call calls n first v r rs =
-    let d : Desk = desk_at n (Between first v (r ∷ rs)) in
-    ap (counted 0) (desk_same (refusal (world_with calls) d (call.Write (record { 0 = 0 }) 0 r.words)) d)
+write_call calls n first v r rs = refl
 
 reset_call : (calls : List Call) (n : ℕ) (first : Bool) (v : ℕ) (r : Round) (rs : List Round) →
     desk_after_call (world_with calls) (desk_at n (Written first v r rs)) 0 (call.Reset (record { 0 = 0 }) (record { 0 = 0 })) ≡ desk_at (n + 1) (Begun v r rs)
@@ -73,9 +70,7 @@ call_moves calls n (Ended v r rs) rising = refl
 call_moves calls n (Executed busy v r rs) rising = signal_call calls n busy v r rs
 call_moves calls n (Signalled f v r rs) rising = ap (marked_desk (n + 1) v r rs f) (reached f v r.value rising.0.above)
 call_moves calls n (Waits f v r rs) rising = tt
-call_moves calls n (Woken v rs) rising =
-    let d : Desk = desk_at n (Woken v rs) in
-    ap (counted 0) (desk_same (refusal (world_with calls) d (call.Read (record { 0 = 1 }) 0 16)) d)
+call_moves calls n (Woken v rs) rising = refl
 
 -- a call that reads or writes a buffer comes where nothing is called and incomplete
 pub access_is_quiet : (m : Moment) → OnNext (λ c. is_access c ≡ true → called_at m ≡ []) (next_at m)
@@ -90,9 +85,9 @@ access_is_quiet (Signalled f v r rs) = λ access. absurd (cc)
 access_is_quiet (Waits f v r rs) = tt
 access_is_quiet (Woken v rs) = λ access. refl
 
-unless_single : (r : Option Hresult) (os : List Operation) → list_all is_single os ≡ true → list_all is_single (unless_refused r os) ≡ true
-unless_single None os single = single
-unless_single (Some e) os single = refl
+-- the operation that a call gives that queue, where it gives it one
+abbrev pub given_by : World → Desk → ℕ → Call → List Operation
+given_by w d q c = here_of q (operation_given d.lists (done w d.lists c).gives)
 
 if_single : (t : Bool) (o : Operation) → is_single o ≡ true → list_all is_single (if t then o ∷ [] else []) ≡ true
 if_single true o single = ap (λ u. u && true) single
@@ -100,19 +95,17 @@ if_single false o single = refl
 
 -- the next call gives a queue operations of at most one command
 pub call_is_single : (calls : List Call) (n : ℕ) (m : Moment) (q : ℕ) →
-    OnNext (λ c. list_all is_single (unless_refused (refusal (world_with calls) (desk_at n m) c) (operation_of (desk_at n m) q c)) ≡ true) (next_at m)
+    OnNext (λ c. list_all is_single (given_by (world_with calls) (desk_at n m) q c) ≡ true) (next_at m)
 call_is_single calls n (Between first v []) q = tt
-call_is_single calls n (Between first v (r ∷ rs)) q =
-    unless_single (refusal (world_with calls) (desk_at n (Between first v (r ∷ rs))) (call.Write (record { 0 = 0 }) 0 r.words)) [] refl
-call_is_single calls n (Written first v r rs) q =
-    unless_single (refusal (world_with calls) (desk_at n (Written first v r rs)) (call.Reset (record { 0 = 0 }) (record { 0 = 0 }))) [] refl
+call_is_single calls n (Between first v (r ∷ rs)) q = refl
+call_is_single calls n (Written first v r rs) q = refl
 call_is_single calls n (Begun v r rs) q = refl
 call_is_single calls n (Recorded v r rs) q = refl
 call_is_single calls n (Ended v r rs) q = if_single (0 == q) execute_copy refl
 call_is_single calls n (Executed busy v r rs) q = if_single (0 == q) (operation.Signal (record { 0 = 0 }) r.value) refl
 call_is_single calls n (Signalled f v r rs) q = refl
 call_is_single calls n (Waits f v r rs) q = tt
-call_is_single calls n (Woken v rs) q = unless_single (refusal (world_with calls) (desk_at n (Woken v rs)) (call.Read (record { 0 = 1 }) 0 16)) [] refl
+call_is_single calls n (Woken v rs) q = refl
 
 -- the write of four words is not refused
 good_write : (calls : List Call) (d : Desk) (r : Round) → length r.words ≡ 4 → refusal (world_with calls) d (call.Write (record { 0 = 0 }) 0 r.words) ≡ None

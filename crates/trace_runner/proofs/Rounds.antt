@@ -13,7 +13,7 @@ use Rattle.d3d_machine.specs.State.{Desk, State, first_state, place_of, called_o
 use Rattle.d3d_machine.specs.Replies.{refusal}
 use Rattle.d3d_machine.specs.Effects.{after, desk_after, desk_after_call, woken}
 use Rattle.d3d_machine.specs.Play.{May, SameButWords, IsRunButWords, state_after, is_marked}
-use Rattle.d3d_machine.specs.Operations.{operations, operation_of, unless_refused, called_by}
+use Rattle.d3d_machine.specs.Operations.{operations, called_by}
 use Rattle.d3d_machine.proofs.Operations.{operations_append}
 use Rattle.d3d_machine.proofs.Runs.{run_induction, state_after_append}
 use Rattle.sys_core.specs.Ahead.{IsQuiet, is_access, is_good_access, is_host_access, AreHostAccessesQuiet, AreSingle}
@@ -155,10 +155,10 @@ rounds_are_quiet rounds h rising run =
 
 call_at_single : (calls : List Call) (n : ℕ) (m : Moment) (q t : ℕ) (c : Call) → drop n calls ≡ left_at m →
     (place_of (desk_at n m) t).waits ≡ None → next_call (world_with calls) (desk_at n m) t ≡ Some c →
-    list_all is_single (unless_refused (refusal (world_with calls) (desk_at n m) c) (operation_of (desk_at n m) q c)) ≡ true
+    list_all is_single (given_by (world_with calls) (desk_at n m) q c) ≡ true
 call_at_single calls n m q zero c left none is =
     let at : IsNext m c (drop (n + 1) calls) = comes_next calls n m c left none is in
-    on_next (λ x. list_all is_single (unless_refused (refusal (world_with calls) (desk_at n m) x) (operation_of (desk_at n m) q x)) ≡ true) (next_at m) c
+    on_next (λ x. list_all is_single (given_by (world_with calls) (desk_at n m) q x) ≡ true) (next_at m) c
     (call_is_single calls n m q) at.next
 call_at_single calls n m q (suc t) c left none is = absurd (cc)
 
