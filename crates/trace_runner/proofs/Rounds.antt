@@ -20,7 +20,7 @@ use Rattle.sys_core.specs.Ahead.{IsQuiet, is_access, is_good_access, is_host_acc
 use Rattle.sys_core.specs.InOrder.{is_single}
 use Rattle.trace_runner.specs.Rounds.{Round, calls_of, world_with, world_of_rounds, AreRising}
 use Rattle.trace_runner.specs.Moments.{Moment, Between, left_at, next_at, after_call, after_queue, after_awake, called_at, waits_at, desk_at, IsRising}
-use Rattle.trace_runner.proofs.Moments.{on_next, call_moves, access_is_quiet, call_is_single, call_rises, IsNext, first_is_next, queue_moves, queue_leaves, queue_rises, awake_moves, awake_leaves, awake_rises}
+use Rattle.trace_runner.proofs.Moments.{given_by, on_next, call_moves, access_is_quiet, call_is_single, call_rises, IsNext, first_is_next, queue_moves, queue_leaves, queue_rises, awake_moves, awake_leaves, awake_rises}
 use Rattle.sys_core.proofs.Whole.{quiet_append}
 use Rattle.dx_base.proofs.Lists.{all_append}
 
