@@ -18,3 +18,5 @@ pub mod Steps
 pub mod Resources
 pub mod Machines
 pub mod Refusals
+pub mod Past
+pub mod PastPlaces

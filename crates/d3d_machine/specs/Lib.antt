@@ -14,4 +14,5 @@ pub mod Marks
 pub mod Good
 pub mod Steps
 pub mod Machine
+pub mod Past
 pub mod Laws

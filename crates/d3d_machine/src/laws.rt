@@ -1,6 +1,7 @@
 //! Laws of the machine. The functions do nothing.
 
 ghost use Rattle.d3d_machine.specs.Laws.{StepsMay, RefusedCallsHaveNoEffect, RunsFollowScripts, WaitsAreMetSince};
+ghost use Rattle.d3d_machine.specs.Past.{PastsAreRight};
 
 /// The events of the steps are the events that may come: what a thread's or a queue's step gives may come,
 /// and of each thread and each queue nothing else may.
@@ -28,4 +29,12 @@ pub fn runs_follow_scripts()
 #[tactic(auto, using(crate::proofs::Marking::marks_are_met))]
 pub fn waits_are_met_since()
     ensures { WaitsAreMetSince }
+{}
+
+/// In a run of a valid world, also but for words, the past tells the machine: each thread is at its place of the past, its
+/// wait met exactly where an update of the fence suffices that was current at the call or came since, and each fence has the
+/// value of its last update.
+#[tactic(auto, using(crate::proofs::PastPlaces::pasts_are_right))]
+pub fn pasts_are_right()
+    ensures { PastsAreRight }
 {}
