@@ -55,7 +55,7 @@ one_more_here (Some x) xss k xs is =
       | inr other ↦ rw other.0 (get_changed_other (with_one x.what) xss x.place k other.1 ∙ is ∙ ap (λ ys. Some ys) (sym (append-nil xs)))
     ]
 
-length_marked : (o : Option (At ℕ)) (ps : List Place) → length (marked_places o ps) ≡ length ps
+pub length_marked : (o : Option (At ℕ)) (ps : List Place) → length (marked_places o ps) ≡ length ps
 length_marked None ps = refl
 length_marked (Some x) ps = length-map ps (marked_place x.place x.what)
 

@@ -1,11 +1,12 @@
 -- The past goes on by one event, and its parts are what the folds over histories say.
 use Rattle.std.proofs.Common.{ℕ, zero, suc, ◌≡◌, ◌<◌, ◌+◌, ◌∙◌, sym, ap, refl, arith, List, [], ◌∷◌, ◌++◌, length, map, slice_get, Some, None, Option, append_assoc, inl, inr}
-use Rattle.std.proofs.lemmas.List.{append-nil, map-append}
+use Rattle.std.proofs.lemmas.List.{append-nil, map-append, length-map}
 use Rattle.std.proofs.lemmas.Option.{slice_get-map}
 use Rattle.std.proofs.lemmas.Bool.Decides.{eqb_tells}
 use Rattle.std.specs.Option.{option_map}
 use Rattle.std.specs.Prelude.{if◌then◌else◌, ◌==◌}
 use Rattle.dx_base.specs.Effects.{At, changed_by}
+use Rattle.dx_base.proofs.Effects.{length_by}
 use Rattle.dx_base.specs.declared.kinds.ListType.{ListType}
 use Rattle.dx_base.proofs.Lists.{map_changed, get_changed, get_changed_other}
 use Rattle.d3d_machine.specs.declared.world.World.{World}
@@ -17,7 +18,7 @@ use Rattle.d3d_machine.specs.Effects.{with_one, after, after_all}
 use Rattle.d3d_machine.specs.Play.{state_after}
 use Rattle.d3d_machine.specs.Fences.{event_sets, update_of, updates_from, applied_updates}
 use Rattle.d3d_machine.specs.Operations.{event_gives, called_by, operations_from, operations, completions_by, counter}
-use Rattle.d3d_machine.specs.Past.{CalledAt, with_called, event_completes, Past, after_past, past_from, past, first_past}
+use Rattle.d3d_machine.specs.Past.{CalledAt, with_called, event_moves, event_completes, moved, first_place, Past, after_past, past_from, past, first_past}
 use Rattle.d3d_machine.proofs.CallEffects.{one_more_here}
 
 from_append : (w : World) (p : Past) (h : List Event) (e : Event) → past_from w p (h ++ e ∷ []) ≡ after_past w (past_from w p h) e
@@ -35,6 +36,14 @@ state_on w p (e ∷ h) = state_on w (after_past w p e) h
 -- the state that a history leaves
 pub state_is : (w : World) (h : List Event) → (past w h).state ≡ state_after w h
 state_is w h = state_on w (first_past w) h
+
+places_on : (w : World) (p : Past) (h : List Event) → length (past_from w p h).places ≡ length p.places
+places_on w p [] = refl
+places_on w p (e ∷ h) = places_on w (after_past w p e) h ∙ length_by (moved p.updates) (event_moves w p.state.desk e) p.places
+
+-- there is a place for each thread of the world
+pub places_many : (w : World) (h : List Event) → length (past w h).places ≡ length w.scripts
+places_many w h = places_on w (first_past w) h ∙ length-map w.scripts (λ _. first_place)
 
 updates_on : (w : World) (p : Past) (h : List Event) (f : ℕ) (us : List ℕ) → slice_get p.updates f ≡ Some us →
     slice_get (past_from w p h).updates f ≡ Some (us ++ updates_from w p.state f h)

@@ -133,7 +133,7 @@ still_behind us (Some x) (Some a) is =
     (omega (arith, ltb-true a.since (length (updates_at us a.fence)) is, longer us x.place x.what a.fence))
 
 -- the machine's place after a move
-abbrev place_moved : Desk → Move → Place → Place
+abbrev pub place_moved : Desk → Move → Place → Place
 place_moved d (calls None) p = one_call_more p
 place_moved d (calls (Some x)) p = one_call_more (begins_wait (value_of d x.place) x.place x.what p)
 place_moved d wakes p = record p { waits = None }
@@ -192,7 +192,8 @@ operation_fences d None = refl
 operation_fences d (Some (operation.Execute cs)) = refl
 operation_fences d (Some (operation.Signal f v)) = refl
 
-threads_after : (w : World) (s : State) (e : Event) →
+-- the threads' places after an event
+pub threads_after : (w : World) (s : State) (e : Event) →
     (after w s e).desk.threads ≡ changed_by (place_moved s.desk) (event_moves w s.desk e) (marked_places (event_sets w s.desk e) s.desk.threads)
 threads_after w s (event.Call t c r) = counted_wait s.desk t.0 (done w s.desk.lists c).waits (marked_places (done w s.desk.lists c).sets s.desk.threads)
 threads_after w s (event.Awake t) = refl

@@ -58,7 +58,7 @@ mapped_here f [] t h = absurd (omega arith)
 mapped_here f (p ∷ ps) zero h = refl
 mapped_here f (p ∷ ps) (suc t) h = mapped_here f ps t (omega arith)
 
-made_marked : (o : Option (At ℕ)) (ps : List Place) (t : ℕ) → (place_in (marked_places o ps) t).made ≡ (place_in ps t).made
+pub made_marked : (o : Option (At ℕ)) (ps : List Place) (t : ℕ) → (place_in (marked_places o ps) t).made ≡ (place_in ps t).made
 made_marked None ps t = refl
 made_marked (Some x) ps t = kept_map (λ p. p.made) (marked_place x.place x.what) (λ p. refl) ps t
 

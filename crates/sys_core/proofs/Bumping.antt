@@ -32,7 +32,8 @@ use Rattle.vk_port.proofs.Valid.{step_valid}
 use Rattle.vk_port.proofs.Lists.{item_at, get_of_take}
 use Rattle.d3d_machine.proofs.Runs.{run_append, state_after_append}
 use Rattle.dx_base.specs.declared.kinds.ListType.{ListType}
-use Rattle.sys_core.proofs.Seating.{seats_complete, fences_event}
+use Rattle.sys_core.proofs.PastParts.{past_completion}
+use Rattle.d3d_machine.specs.Past.{past}
 use Rattle.sys_core.proofs.Standing.{stands_complete}
 use Rattle.sys_core.proofs.Holding.{held_complete}
 use Rattle.d3d_machine.proofs.Operations.{counter_append}
@@ -42,13 +43,13 @@ use Rattle.vk_port.specs.VkState.{VkState, lane_of, no_lane, counter_of}
 use Rattle.vk_port.specs.After.{with_done, place_of, after_step, lane_after_bump, lane_after_pass, lane_after_run, after_sets, sets_of}
 use Rattle.sys_core.specs.declared.parts.Signalled.{Signalled}
 use Rattle.sys_core.specs.Lowering.{startup, opening_batches, plan_of_world}
-use Rattle.d3d_machine.specs.Fences.{operation_sets, applied_updates}
+use Rattle.d3d_machine.specs.Fences.{operation_sets}
 use Rattle.std.proofs.lemmas.Bool.{eq-eqb}
-use Rattle.sys_core.specs.Parts.{Queued, with_number, signal_at, without, without_first, updated_by}
+use Rattle.sys_core.specs.Parts.{place_since, Queued, with_number, signal_at, without, without_first, updated_by}
 use Rattle.sys_core.specs.Stands.{Stands, StandsAt}
 use Rattle.sys_core.specs.Steps.{submitted_of}
 use Rattle.sys_core.specs.declared.parts.Seat.{Seat}
-use Rattle.sys_core.specs.Consistent.{IsHeld, AreHeld, AreFences, IsConsistent, IsDevice, finished_of, signals_of}
+use Rattle.sys_core.specs.Consistent.{ArePast, IsHeld, AreHeld, IsConsistent, IsDevice, finished_of, signals_of}
 use Rattle.sys_core.proofs.Standing.{submitted_is}
 use Rattle.sys_core.proofs.Startup.{begins_of, begins_by, one_queue}
 use Rattle.sys_core.proofs.Holding.{drop_here, slice_get_drop}
@@ -211,9 +212,7 @@ consistent_goes : (w : World) (h : List Event) (lists : List Listed) (seats : Li
 consistent_goes w h lists seats fences held v u is journal device = record {
   world = is.world;
   run = is.run;
-  lists_are = is.lists_are;
-  seats_are = is.seats_are;
-  fences_are = is.fences_are;
+  past_is = is.past_is;
   held_are = held_goes w h v u held journal is.held_are;
   device = device;
 }
@@ -295,13 +294,6 @@ updated_is : (n : ℕ) (o : Operation) (fences : List (List ℕ)) → changed_by
 updated_is n (Execute cs) fences = refl
 updated_is n (Signal f v) fences = refl
 
--- the fences' updates when an operation has completed
-fences_end : (w : World) (h : List Event) (q : QueueId) (n : ℕ) (o : Operation) (fences : List (List ℕ)) → AreFences w h fences → head_of (state_after w h).desk q.0 ≡ Some o →
-    AreFences w (h ++ event.Queue q ∷ []) (updated_by (signal_by n o) fences)
-fences_end w h q n o fences are head =
-    subst (AreFences w (h ++ event.Queue q ∷ [])) (ap (λ x. changed_by with_one (operation_sets x) fences) head ∙ updated_is n o fences)
-    (fences_event w h (event.Queue q) fences are)
-
 held_end : (w : World) (h : List Event) (v u : VkState) (q : QueueId) (n : ℕ) (o : Operation) (x : Queued) (held : List Queued) → AreHeld w h v held → slice_get held 0 ≡ Some x →
     length w.queues ≡ 1 → completions_by 0 (event.Queue q) ≡ 1 → counter h 0 < x.submitted → slice_get (operations w h 0) (counter h 0) ≡ Some o →
     AreHeld w (h ++ event.Queue q ∷ []) (after_step v (Bumped 0 n)) (changed_at (without (signal_by n o)) 0 held)
@@ -373,9 +365,10 @@ consistent_end w h lists seats fences held v q n x is zeroth within some enabled
     record {
       world = is.world;
       run = run_append w h e is.run (ap (λ ys. nat_lt 0 (length ys)) called_is ∙ lt-ltb 0 (length (drop c os)) (slice_get_within (drop c os) 0 o head));
-      lists_are = is.lists_are ∙ sym (operation_lists (state_after w h) (head_of (state_after w h).desk q.0) q.0) ∙ ap (λ (s : State). s.desk.lists) (sym (state_after_append w h e));
-      seats_are = seats_complete w h q seats is.seats_are;
-      fences_are = subst (λ k. AreFences w (h ++ e ∷ []) (updated_by k fences)) (sym signal) (fences_end w h q n o fences is.fences_are head_is);
+      past_is =
+          subst (ArePast (past w (h ++ e ∷ [])) lists (map place_since seats))
+          (ap (λ y. changed_by with_one (operation_sets y) fences) head_is ∙ updated_is n o fences ∙ ap (λ k. updated_by k fences) (sym signal))
+          (past_completion w h q lists seats fences is.past_is);
       held_are = subst (λ k. AreHeld w (h ++ e ∷ []) u (changed_at (without k) 0 held)) (sym signal) (held_end w h v u q n o x held is.held_are at one one_more less called);
       device = device_end w h v q n first.0 o is.device one one_more first.1 ending.1 (step_valid v (Bumped 0 n) enabled is.device.valid);
     }

@@ -8,27 +8,21 @@ use Rattle.dx_base.specs.Lists.{changed_at, range_of}
 use Rattle.dx_base.specs.declared.ids.ThreadId.{ThreadId}
 use Rattle.dx_base.specs.declared.hresult.Hresult.{Hresult}
 use Rattle.dx_base.specs.Effects.{At, changed_by}
-use Rattle.dx_base.proofs.Effects.{length_by, unless_some}
+use Rattle.dx_base.proofs.Effects.{length_by}
 use Rattle.dx_base.proofs.Lists.{length_changed, get_changed, get_changed_other}
 use Rattle.d3d_machine.specs.declared.world.World.{World}
 use Rattle.d3d_machine.specs.declared.calls.Call.{Call}
 use Rattle.d3d_machine.specs.CallEffects.{here_of, does}
-use Rattle.d3d_machine.proofs.CallEffects.{is_wait, waits_done}
-use Rattle.d3d_machine.specs.declared.calls.Call.TheVariants as call
 use Rattle.d3d_machine.specs.declared.calls.Reply.{Reply}
 use Rattle.d3d_machine.specs.declared.calls.Reply.TheVariants as reply
 use Rattle.d3d_machine.specs.declared.events.Listed.{Listed}
 use Rattle.d3d_machine.specs.declared.events.Event.{Event}
 use Rattle.d3d_machine.specs.declared.events.Event.TheVariants as event
-use Rattle.d3d_machine.specs.World.{is_named}
 use Rattle.d3d_machine.specs.State.{Desk, State, place_of, next_call, value_of, words_at}
 use Rattle.d3d_machine.specs.Replies.{refusal_by, refusal, answer, reply_or, good_reply, reply_of}
 use Rattle.d3d_machine.specs.Effects.{operation_given, done, memory_by, desk_after_call}
 use Rattle.d3d_machine.specs.Play.{May, SameButWords, state_after}
-use Rattle.d3d_machine.specs.Fences.{event_sets, applied_updates, is_met}
 use Rattle.d3d_machine.proofs.Runs.{run_append, state_after_append}
-use Rattle.d3d_machine.proofs.Named.{next_is_named}
-use Rattle.d3d_machine.proofs.Marks.{met_at_call, current_is_last}
 use Rattle.vk_port.specs.VkState.{VkState}
 use Rattle.sys_core.specs.declared.parts.Seat.{Seat}
 use Rattle.d3d_machine.specs.declared.events.Operation.{Operation}
@@ -36,15 +30,14 @@ use Rattle.d3d_machine.specs.Operations.{event_gives, called_by, completions_by}
 use Rattle.d3d_machine.proofs.Operations.{counter_append}
 use Rattle.std.proofs.lemmas.Bool.Decides.{eqb_tells}
 use Rattle.std.specs.Option.{option_map}
-use Rattle.sys_core.specs.Parts.{Queued, with_operation, held_by, fences_by, armed_or, woken_seat, state_by, reply_by, lists_by, device_by, seat_after}
+use Rattle.sys_core.specs.Parts.{Queued, with_operation, held_by, fences_by, woken_seat, state_by, reply_by, lists_by, device_by, seat_after}
 use Rattle.sys_core.specs.Memory.{memory_of, device_words}
-use Rattle.sys_core.specs.Values.{last_of}
-use Rattle.sys_core.specs.Consistent.{AreSeats, AreFences, AreHeld, IsDevice, IsConsistent}
+use Rattle.d3d_machine.specs.Past.{last_of}
+use Rattle.sys_core.specs.Consistent.{AreHeld, IsDevice, IsConsistent}
 use Rattle.sys_core.proofs.Standing.{stands_event}
 use Rattle.sys_core.proofs.Holding.{held_event}
 use Rattle.sys_core.proofs.Buffers.{same_sizes, sizes_written_by}
-use Rattle.sys_core.proofs.Seating.{call_seat, WaitsOnFence, seats_call, seats_awake, fences_event}
-use Rattle.sys_core.proofs.Values.{values_are}
+use Rattle.sys_core.proofs.PastParts.{lists_now, values_are, past_call, past_awake}
 
 size_at : (xs ys : List (List ℕ)) (b : ℕ) → map length xs ≡ map length ys → length (words_at xs b) ≡ length (words_at ys b)
 size_at [] [] b same = refl
@@ -89,46 +82,10 @@ replies_alike w s lists fences v c are values sizes =
     subst (λ ls. SameButWords (reply_or (refusal_by w ls c) (good_reply (state_by w lists fences v) c)) (reply_of w s c)) (sym are)
     (reply_same (refusal w s.desk c) c (state_by w lists fences v) s values sizes)
 
-pub lists_are : (w : World) (h : List Event) (lists : List Listed) (t : ThreadId) (c : Call) (r : Reply) → lists ≡ (state_after w h).desk.lists →
-    lists_by w lists c ≡ (state_after w (h ++ event.Call t c r ∷ [])).desk.lists
-lists_are w h lists t c r are =
-    ap (λ ls. lists_by w ls c) are
-    ∙ ap (λ (s : State). s.desk.lists) (sym (state_after_append w h (event.Call t c r)))
-
 pub changed_ext : {A : Type 0} (f g : A → A) (k : ℕ) (xs : List A) → ((x : A) → f x ≡ g x) → changed_at f k xs ≡ changed_at g k xs
 changed_ext f g k [] same = refl
 changed_ext f g zero (x ∷ xs) same = ap (λ y. y ∷ xs) (same x)
 changed_ext f g (suc k) (x ∷ xs) same = ap (λ ys. x ∷ ys) (changed_ext f g k xs same)
-
-seat_is : (w : World) (h : List Event) (e : Event) (fences : List (List ℕ)) (x : Option (At ℕ)) → AreFences w h fences → WaitsOnFence w h e x → (s : Seat) →
-    record { made = s.made + 1; waits = armed_or fences x s.waits } ≡ call_seat w h x s
-seat_is w h e fences None are fits s = refl
-seat_is w h e fences (Some x) are fits s =
-    ap (λ us. let y : Seat = record { made = s.made + 1; waits = Some (record { fence = record { 0 = x.place }; value = x.what; since = length us - 1 }) } in y)
-    (get_or_from_slice_get fences x.place (applied_updates w h x.place) [] (are.each x.place fits.0))
-
--- the wait that a call begins is on a fence of the world, and the call gives no fence a value
-waits_fit : (w : World) (h : List Event) (t : ThreadId) (c : Call) (r : Reply) → is_named w c ≡ true →
-    WaitsOnFence w h (event.Call t c r) (done w (state_after w h).desk.lists c).waits
-waits_fit w h t c r named = by_wait (done w lists c).waits refl
-  where
-    lists : List Listed
-    lists = (state_after w h).desk.lists
-
-    by_wait : (o : Option (At ℕ)) → (done w lists c).waits ≡ o → WaitsOnFence w h (event.Call t c r) o
-    by_wait None is = tt
-    by_wait (Some x) is =
-        let wait : c ≡ call.HostWait (record { 0 = x.place }) x.what = is_wait c x (unless_some (does c).waits (refusal_by w lists c) x is) in
-        (ltb-true x.place (length w.fences) (subst (λ k. is_named w k ≡ true) wait named), ap (λ k. (done w lists k).sets) wait)
-
-pub seats_are : (w : World) (h : List Event) (fences : List (List ℕ)) (t : ThreadId) (c : Call) (r : Reply) (seats : List Seat) → AreSeats w h seats → AreFences w h fences →
-    is_named w c ≡ true → AreSeats w (h ++ event.Call t c r ∷ []) (changed_at (seat_after fences c) t.0 seats)
-seats_are w h fences t c r seats are fences_are named =
-    let x : Option (At ℕ) = (done w (state_after w h).desk.lists c).waits in
-    let fits : WaitsOnFence w h (event.Call t c r) x = waits_fit w h t c r named in
-    subst (λ o. AreSeats w (h ++ event.Call t c r ∷ []) (changed_at (λ s. record { made = s.made + 1; waits = armed_or fences o s.waits }) t.0 seats)) (waits_done w (state_after w h).desk.lists c)
-    (subst (AreSeats w (h ++ event.Call t c r ∷ [])) (sym (changed_ext (λ s. record { made = s.made + 1; waits = armed_or fences x s.waits }) (call_seat w h x) t.0 seats (seat_is w h (event.Call t c r) fences x fences_are fits)))
-    (seats_call w h t c r seats are (λ f v within. ap (λ k. is_met (applied_updates w h f) k v) (sym (current_is_last w h f)) ∙ met_at_call w h f v within) fits))
 
 pub mapped_some : {A B : Type 0} (f : A → B) (o : Option A) (y : B) → option_map f o ≡ Some y → (x : A) × (o ≡ Some x) × (y ≡ f x)
 mapped_some f None y is = absurd (cc)
@@ -193,14 +150,13 @@ pub consistent_call : (w : World) (h : List Event) (lists : List Listed) (seats 
 consistent_call w h lists seats fences held v t c is waits next =
     let r : Reply = reply_by w lists fences v c in
     let e : Event = event.Call t c r in
+    let lists_are : lists ≡ (state_after w h).desk.lists = lists_now w h lists seats fences is.past_is in
     let sizes : map length (memory_of w v.words) ≡ map length (state_after w h).memory = same_sizes w h v is.device.objects in
     record {
       world = is.world;
-      run = run_append w h e is.run (waits, next, replies_alike w (state_after w h) lists fences v c is.lists_are (values_are w h fences is.fences_are) sizes);
-      lists_are = lists_are w h lists t c r is.lists_are;
-      seats_are = seats_are w h fences t c r seats is.seats_are is.fences_are (next_is_named w (state_after w h).desk t.0 c is.world next);
-      fences_are = subst (λ ls. AreFences w (h ++ e ∷ []) (fences_by w ls c fences)) (sym is.lists_are) (fences_event w h e fences is.fences_are);
-      held_are = held_are w h v (device_by w lists v c) lists held t c r is.held_are is.lists_are refl;
+      run = run_append w h e is.run (waits, next, replies_alike w (state_after w h) lists fences v c lists_are (values_are w h lists seats fences is.past_is is.world is.run) sizes);
+      past_is = past_call w h t c r lists seats fences is.past_is;
+      held_are = held_are w h v (device_by w lists v c) lists held t c r is.held_are lists_are refl;
       device = device_is w h e v (device_words w (memory_by (done w lists c).stores (memory_of w v.words))) is.device (λ q. refl)
           (sizes_written_by w v (done w lists c).stores is.device.objects);
     }
@@ -220,9 +176,7 @@ consistent_awake w h lists seats fences held v t is may =
     record {
       world = is.world;
       run = run_append w h e is.run may;
-      lists_are = is.lists_are ∙ ap (λ (s : State). s.desk.lists) (sym (state_after_append w h e));
-      seats_are = seats_awake w h t seats is.seats_are;
-      fences_are = fences_event w h e fences is.fences_are;
+      past_is = past_awake w h t lists seats fences is.past_is;
       held_are = held_awake w h v held t is.held_are;
       device = device_is w h e v v.words is.device (λ q. refl) refl;
     }

@@ -1,5 +1,5 @@
 -- All is finished exactly where the system's parts say so.
-use Rattle.std.proofs.Common.{ℕ, zero, suc, ◌≡◌, ◌<◌, ◌≤◌, ◌+◌, ◌-◌, ◌∙◌, sym, ap, subst, refl, arith, List, [], ◌∷◌, length, drop, Some, None, Option, Bool, true, false, inl, inr, slice_get}
+use Rattle.std.proofs.Common.{ℕ, zero, suc, ◌≡◌, ◌<◌, ◌≤◌, ◌+◌, ◌-◌, ◌∙◌, sym, ap, subst, refl, arith, List, [], ◌∷◌, length, map, drop, Some, None, Option, Bool, true, false, inl, inr, slice_get}
 use Rattle.std.proofs.lemmas.Bool.{and_parts, eqb-true, cases_lt}
 use Rattle.std.proofs.lemmas.Bool.Decides.{eqb_tells}
 use Rattle.std.proofs.lemmas.List.{length-drop}
@@ -23,10 +23,11 @@ use Rattle.sys_core.specs.declared.parts.Armed.{Armed}
 use Rattle.sys_core.specs.declared.parts.Held.{Held}
 use Rattle.sys_core.specs.declared.parts.Parts.{Parts}
 use Rattle.sys_core.specs.declared.parts.Seat.{Seat}
-use Rattle.sys_core.specs.Consistent.{IsHeld, place_from}
+use Rattle.sys_core.specs.Consistent.{IsHeld}
 use Rattle.sys_core.specs.Finished.{has_ended_by, has_ended_at, is_empty_at, all_from}
 use Rattle.sys_core.specs.Keeps.{Keeps}
-use Rattle.sys_core.specs.Parts.{queued}
+use Rattle.d3d_machine.specs.Past.{place_from}
+use Rattle.sys_core.specs.Parts.{queued, updates_in, place_since}
 use Rattle.sys_core.specs.Stands.{StandsAt}
 use Rattle.sys_core.specs.Steps.{submitted_of}
 use Rattle.sys_core.proofs.Ahead.{drop_past}
@@ -66,18 +67,18 @@ record IsEndedPlace (calls : ℕ) (p : Place) : Type 0 where
   made : p.made ≡ calls
   waits : p.waits ≡ None
 
-ended_place : (w : World) (h : List Event) (calls made : ℕ) (o : Option Armed) → has_ended_by calls (record { made = made; waits = o }) ≡ true →
-    IsEndedPlace calls (place_from w h (record { made = made; waits = o }))
-ended_place w h calls made None ended = record { made = eqb-true made calls ended; waits = refl }
-ended_place w h calls made (Some a) ended = absurd (cc)
+ended_place : (us : List (List ℕ)) (calls made : ℕ) (o : Option Armed) → has_ended_by calls (record { made = made; waits = o }) ≡ true →
+    IsEndedPlace calls (place_from us (place_since (record { made = made; waits = o })))
+ended_place us calls made None ended = record { made = eqb-true made calls ended; waits = refl }
+ended_place us calls made (Some a) ended = absurd (cc)
 
-place_ended : (w : World) (h : List Event) (calls made : ℕ) (o : Option Armed) → (place_from w h (record { made = made; waits = o })).made ≡ calls →
-    (place_from w h (record { made = made; waits = o })).waits ≡ None → has_ended_by calls (record { made = made; waits = o }) ≡ true
-place_ended w h calls made None same none = elim (eqb_tells made calls) [
+place_ended : (us : List (List ℕ)) (calls made : ℕ) (o : Option Armed) → (place_from us (place_since (record { made = made; waits = o }))).made ≡ calls →
+    (place_from us (place_since (record { made = made; waits = o }))).waits ≡ None → has_ended_by calls (record { made = made; waits = o }) ≡ true
+place_ended us calls made None same none = elim (eqb_tells made calls) [
   | inl is ↦ is.0
   | inr other ↦ absurd (omega (arith, same, other.1))
 ]
-place_ended w h calls made (Some a) same none = absurd (cc)
+place_ended us calls made (Some a) same none = absurd (cc)
 
 nothing_past : {A : Type 0} (xs : List A) (t : ℕ) → length xs ≤ t → slice_get xs t ≡ None
 nothing_past [] t past = refl
@@ -111,14 +112,14 @@ module _ {D : Type 0} (state : D → VkState) (plan_of : D → Option DevicePlan
       let by : has_ended_by (length (script_of w t)) found.0 ≡ true =
       sym (ap (λ (o : Option Seat). elim o [ None ↦ false | Some s ↦ has_ended_by (length (script_of w t)) s ]) found.1) ∙ ended in
       subst (IsEndedPlace (length (script_of w t))) (sym (place_is w h p (state d) t found.0 keeps.consistent found.1))
-      (ended_place w h (length (script_of w t)) found.0.made found.0.waits by)
+      (ended_place (map updates_in p.fences) (length (script_of w t)) found.0.made found.0.waits by)
 
   ended_thread : (t : ℕ) → t < length w.scripts → IsFinished w desk → has_ended_at w p.seats t ≡ true
   ended_thread t within finished =
       let found : (s : Seat) × (slice_get p.seats t ≡ Some s) = seat_at t within in
-      let place : place_of desk t ≡ place_from w h found.0 = place_is w h p (state d) t found.0 keeps.consistent found.1 in
+      let place : place_of desk t ≡ place_from (map updates_in p.fences) (place_since found.0) = place_is w h p (state d) t found.0 keeps.consistent found.1 in
       ap (λ (o : Option Seat). elim o [ None ↦ false | Some s ↦ has_ended_by (length (script_of w t)) s ]) found.1
-      ∙ place_ended w h (length (script_of w t)) found.0.made found.0.waits
+      ∙ place_ended (map updates_in p.fences) (length (script_of w t)) found.0.made found.0.waits
       (sym (ap (λ (x : Place). x.made) place) ∙ finished.scripts t) (sym (ap (λ (x : Place). x.waits) place) ∙ finished.waits t)
 
   -- what a queue of the world has, and what of it the system holds

@@ -19,48 +19,41 @@ use Rattle.d3d_machine.specs.declared.events.Event.{Event}
 use Rattle.d3d_machine.specs.declared.events.Event.TheVariants as event
 use Rattle.d3d_machine.specs.State.{Place, place_of, opening_place, script_of}
 use Rattle.d3d_machine.specs.Play.{is_marked, state_after}
-use Rattle.d3d_machine.specs.Fences.{applied_updates, is_met}
+use Rattle.d3d_machine.specs.Past.{place_from, waiting_from}
 use Rattle.d3d_machine.proofs.Named.{all_at}
 use Rattle.vk_types.specs.declared.plan.DevicePlan.{DevicePlan}
 use Rattle.vk_port.specs.VkState.{VkState}
 use Rattle.sys_core.specs.declared.parts.Armed.{Armed}
 use Rattle.sys_core.specs.declared.parts.Seat.{Seat}
 use Rattle.sys_core.specs.declared.parts.Parts.{Parts}
-use Rattle.sys_core.specs.Parts.{Queued, queued, updates_in, is_met_by, reply_by, lists_by, held_by, fences_by, armed_or, device_by, seat_after, woken_seat}
+use Rattle.sys_core.specs.Parts.{Queued, queued, updates_in, wait_since, place_since, is_met_by, reply_by, lists_by, held_by, fences_by, armed_or, device_by, seat_after, woken_seat}
 use Rattle.sys_core.specs.Steps.{is_ready_thread, is_ready_place}
-use Rattle.sys_core.specs.Consistent.{place_from, is_behind, waiting_from, is_armed_met, IsConsistent, AreFences}
+use Rattle.sys_core.specs.Consistent.{IsConsistent}
 use Rattle.sys_core.specs.Lowering.{AreNumbers}
 use Rattle.sys_core.specs.Serving.{Serves, StaysParts}
 use Rattle.sys_core.specs.Keeps.{Keeps, ready_by}
+use Rattle.sys_core.proofs.PastParts.{place_now}
 use Rattle.sys_core.proofs.Calling.{changed_ext, consistent_call, consistent_awake}
 
 -- the machine's place of a thread, from the system's
 pub place_is : (w : World) (h : List Event) (p : Parts) (v : VkState) (t : ℕ) (s : Seat) →
-    IsConsistent w h p.lists p.seats (map updates_in p.fences) (map queued p.held) v → slice_get p.seats t ≡ Some s → place_of (state_after w h).desk t ≡ place_from w h s
-place_is w h p v t s is at =
-    ap (λ ts. elim (slice_get ts t) [ None ↦ opening_place | Some x ↦ x ]) is.seats_are.threads
-    ∙ ap (λ (o : Option Place). elim o [ None ↦ opening_place | Some x ↦ x ]) (slice_get-map (place_from w h) p.seats t ∙ ap (option_map (place_from w h)) at)
+    IsConsistent w h p.lists p.seats (map updates_in p.fences) (map queued p.held) v → slice_get p.seats t ≡ Some s →
+    place_of (state_after w h).desk t ≡ place_from (map updates_in p.fences) (place_since s)
+place_is w h p v t s is at = place_now w h p.lists p.seats (map updates_in p.fences) is.past_is is.world is.run t s at
 
-met_is : (w : World) (h : List Event) (fences : List (List ℕ)) (a : Armed) → AreFences w h fences → is_behind w h (Some a) ≡ true → is_met_by fences a ≡ is_armed_met w h a
-met_is w h fences a are behind =
-    let within : a.fence.0 < length w.fences =
-    ltb-true a.fence.0 (length w.fences) (and_both (nat_lt a.fence.0 (length w.fences)) (nat_lt a.since (length (applied_updates w h a.fence.0))) behind).0 in
-    ap (λ us. is_met us a.since a.value) (get_or_from_slice_get fences a.fence.0 (applied_updates w h a.fence.0) [] (are.each a.fence.0 within))
-
-ready_same : (w : World) (h : List Event) (script : List Call) (fences : List (List ℕ)) (s : Seat) → AreFences w h fences → is_behind w h s.waits ≡ true →
-    ready_by script fences s ≡ is_ready_place script (place_from w h s)
-ready_same w h script fences s are behind = by_wait s.made s.waits behind
+ready_same : (script : List Call) (fences : List (List ℕ)) (s : Seat) → ready_by script fences s ≡ is_ready_place script (place_from fences (place_since s))
+ready_same script fences s = by_wait s.made s.waits
   where
-    by_wait : (made : ℕ) (o : Option Armed) → is_behind w h o ≡ true →
-        ready_by script fences (record { made = made; waits = o }) ≡ is_ready_place script (place_from w h (record { made = made; waits = o }))
-    by_wait made None behind = refl
-    by_wait made (Some a) behind = met_is w h fences a are behind
+    by_wait : (made : ℕ) (o : Option Armed) →
+        ready_by script fences (record { made = made; waits = o }) ≡ is_ready_place script (place_from fences (place_since (record { made = made; waits = o })))
+    by_wait made None = refl
+    by_wait made (Some a) = refl
 
 -- a thread can go on, by the system's place of it, where its step is enabled
 pub ready_is : {D : Type 0} (state : D → VkState) (plan_of : D → Option DevicePlan) (w : World) (h : List Event) (p : Parts) (d : D) (t : ℕ) (s : Seat) →
     Keeps state plan_of w h p d → slice_get p.seats t ≡ Some s → ready_by (script_of w t) (map updates_in p.fences) s ≡ is_ready_thread w h t
 ready_is state plan_of w h p d t s keeps at =
-    ready_same w h (script_of w t) (map updates_in p.fences) s keeps.consistent.fences_are (all_at (λ x. is_behind w h x.waits) p.seats t s keeps.consistent.seats_are.behind at)
+    ready_same (script_of w t) (map updates_in p.fences) s
     ∙ ap (is_ready_place (script_of w t)) (sym (place_is w h p (state d) t s keeps.consistent at))
 
 -- nothing has changed but room
@@ -95,13 +88,13 @@ pub keeps_call : {D : Type 0} (state : D → VkState) (plan_of : D → Option De
     Keeps state plan_of w (h ++ event.Call t c (reply_by w p.lists (map updates_in p.fences) (state d) c) ∷ []) x e
 keeps_call state plan_of w h p r x d e t c s keeps at waits next serves device plan lists fences held numbers seats =
     let us : List (List ℕ) = map updates_in p.fences in
-    let place : place_of (state_after w h).desk t.0 ≡ place_from w h s = place_is w h p (state d) t.0 s keeps.consistent at in
+    let place : place_of (state_after w h).desk t.0 ≡ place_from us (place_since s) = place_is w h p (state d) t.0 s keeps.consistent at in
     let k : List Event = h ++ event.Call t c (reply_by w p.lists us (state d) c) ∷ [] in
     let v : VkState = device_by w p.lists (state d) c in
     let qs : List Queued = held_by w p.lists c (map queued p.held) in
     let is : IsConsistent w k (lists_by w p.lists c) (changed_at (seat_after us c) t.0 p.seats) (fences_by w p.lists c us) qs v =
     consistent_call w h p.lists p.seats us (map queued p.held) (state d) t c keeps.consistent
-    (ap (λ (y : Place). y.waits) place ∙ ap (option_map (waiting_from w h)) waits)
+    (ap (λ (y : Place). y.waits) place ∙ ap (λ o. option_map (waiting_from us) (option_map wait_since o)) waits)
     (ap (λ (y : Place). slice_get (script_of w t.0) y.made) place ∙ next) in
     let seated : x.seats ≡ changed_at (seat_after us c) t.0 p.seats =
     seats ∙ ap (λ fs. changed_at (seat_after fs c) t.0 r.seats) serves.fences ∙ ap (changed_at (seat_after (fences_by w p.lists c us) c) t.0) serves.seats
@@ -124,9 +117,10 @@ pub keeps_awake : {D : Type 0} (state : D → VkState) (plan_of : D → Option D
     x.lists ≡ p.lists → x.fences ≡ p.fences → x.held ≡ p.held → x.numbers ≡ p.numbers → x.seats ≡ changed_at woken_seat t.0 p.seats →
     Keeps state plan_of w (h ++ event.Awake t ∷ []) x d
 keeps_awake state plan_of w h p x d t s a keeps at waits ready lists fences held numbers seats =
-    let place : place_of (state_after w h).desk t.0 ≡ place_from w h s = place_is w h p (state d) t.0 s keeps.consistent at in
+    let us : List (List ℕ) = map updates_in p.fences in
+    let place : place_of (state_after w h).desk t.0 ≡ place_from us (place_since s) = place_is w h p (state d) t.0 s keeps.consistent at in
     let k : List Event = h ++ event.Awake t ∷ [] in
-    let waiting : (place_of (state_after w h).desk t.0).waits ≡ Some (waiting_from w h a) = ap (λ (y : Place). y.waits) place ∙ ap (option_map (waiting_from w h)) waits in
+    let waiting : (place_of (state_after w h).desk t.0).waits ≡ Some (waiting_from us (wait_since a)) = ap (λ (y : Place). y.waits) place ∙ ap (λ o. option_map (waiting_from us) (option_map wait_since o)) waits in
     let may : is_marked (place_of (state_after w h).desk t.0).waits ≡ true =
     ap is_marked waiting ∙ sym (ap (λ o. elim o [ None ↦ nat_lt (place_of (state_after w h).desk t.0).made (length (script_of w t.0)) | Some y ↦ y.marked ]) waiting) ∙ ready in
     let is : IsConsistent w k p.lists (changed_at woken_seat t.0 p.seats) (map updates_in p.fences) (map queued p.held) (state d) =

@@ -1,6 +1,6 @@
 pub mod Standing
 pub mod Holding
-pub mod Seating
+pub mod PastParts
 pub mod Lowered
 pub mod Updates
 pub mod Spread
@@ -34,5 +34,4 @@ pub mod Beginning
 pub mod NthStep
 pub mod Finishing
 pub mod Stepping
-pub mod Values
 pub mod Refusing

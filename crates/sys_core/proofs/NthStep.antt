@@ -14,7 +14,7 @@ use Rattle.d3d_machine.specs.declared.events.Event.{Event}
 use Rattle.d3d_machine.specs.declared.events.Operation.{Operation}
 use Rattle.d3d_machine.specs.State.{script_of}
 use Rattle.d3d_machine.specs.Operations.{operations}
-use Rattle.d3d_machine.proofs.Shape.{run_has_shape}
+use Rattle.sys_core.proofs.PastParts.{seats_many}
 use Rattle.vk_types.specs.declared.plan.DevicePlan.{DevicePlan}
 use Rattle.vk_port.specs.Offers.{steps_offered}
 use Rattle.vk_port.specs.VkState.{VkState}
@@ -23,7 +23,7 @@ use Rattle.sys_core.specs.declared.parts.Parts.{Parts}
 use Rattle.sys_core.specs.declared.parts.Seat.{Seat}
 use Rattle.sys_core.specs.Parts.{queued, updates_in}
 use Rattle.sys_core.specs.Steps.{is_ready_thread, is_ready_worker, submitted_of, steps_where, always, numbered, enabled_of, CanBeTaken}
-use Rattle.sys_core.specs.Consistent.{IsHeld, place_from}
+use Rattle.sys_core.specs.Consistent.{IsHeld}
 use Rattle.sys_core.specs.Nth.{ready_at, holds_at}
 use Rattle.sys_core.specs.Keeps.{Keeps, ready_by}
 use Rattle.vk_port.proofs.Enabled.{each_append, each_at, each_if}
@@ -203,8 +203,7 @@ where_few test make a (suc n) = by_test (test a) (where_few test make (a + 1) n)
 
 module _ {D : Type 0} (state : D → VkState) (plan_of : D → Option DevicePlan) (w : World) (h : List Event) (p : Parts) (d : D) (keeps : Keeps state plan_of w h p d) where
   pub seats_count : length p.seats ≡ length w.scripts
-  seats_count =
-      sym (length-map p.seats (place_from w h)) ∙ ap length (sym keeps.consistent.seats_are.threads) ∙ (run_has_shape w h).desk.threads
+  seats_count = seats_many w h p.lists p.seats (map updates_in p.fences) keeps.consistent.past_is
 
   pub held_count : length p.held ≡ length w.queues
   held_count = sym (length-map p.held queued) ∙ keeps.consistent.held_are.count

@@ -20,31 +20,19 @@ use Rattle.vk_port.proofs.Valid.{first_valid, submit_valid}
 use Rattle.vk_port.proofs.Matching.{first_matches, submit_matches}
 use Rattle.sys_core.specs.Lowering.{plan_of_world, startup}
 use Rattle.sys_core.specs.Opened.{opened}
-use Rattle.sys_core.specs.Parts.{Queued, no_queue, opening_seat}
+use Rattle.d3d_machine.specs.Past.{first_place}
+use Rattle.sys_core.specs.Parts.{place_since, Queued, no_queue, opening_seat}
 use Rattle.sys_core.specs.Steps.{after_submits}
-use Rattle.sys_core.specs.Consistent.{AreFences, IsHeld, AreHeld, IsDevice, IsConsistent, place_from, is_behind, finished_of}
+use Rattle.sys_core.specs.Consistent.{IsHeld, AreHeld, IsDevice, IsConsistent, finished_of}
 use Rattle.sys_core.proofs.Startup.{opening_is, opening_none, one_queue}
 
 -- the device when the start-up batch is submitted
 abbrev begun : World → VkState
 begun w = after_submit (first_device (plan_of_world w)) (startup w)
 
-seats_open : (w : World) (scripts : List (List Call)) → map (λ _. opening_place) scripts ≡ map (place_from w []) (map (λ _. opening_seat) scripts)
-seats_open w [] = refl
-seats_open w (x ∷ xs) = ap (λ ys. opening_place ∷ ys) (seats_open w xs)
-
-behind_open : (w : World) (scripts : List (List Call)) → list_all (λ s. is_behind w [] s.waits) (map (λ _. opening_seat) scripts) ≡ true
-behind_open w [] = refl
-behind_open w (x ∷ xs) = behind_open w xs
-
-fences_open : (w : World) → AreFences w [] (map (λ v. v ∷ []) w.fences)
-fences_open w = record {
-  count = length-map w.fences (λ v. v ∷ []);
-  each = λ f within.
-      let at : slice_get w.fences f ≡ Some (get_or w.fences f 0) = slice_get-get_or w.fences f 0 within in
-      slice_get-map (λ v. v ∷ []) w.fences f ∙ ap (option_map (λ v. v ∷ [])) at
-      ∙ ap (λ (o : Option ℕ). Some (elim o [ None ↦ 0 | Some v ↦ v ] ∷ [])) (sym at);
-}
+places_open : (scripts : List (List Call)) → map place_since (map (λ _. opening_seat) scripts) ≡ map (λ _. first_place) scripts
+places_open [] = refl
+places_open (x ∷ xs) = ap (λ ys. first_place ∷ ys) (places_open xs)
 
 zero_at : (n q : ℕ) → let zero_number : ℕ = 0 in (get_or (replicate n zero_number) q zero_number ≡ zero_number)
 zero_at zero q = refl
@@ -122,9 +110,7 @@ pub consistent_open : (w : World) → IsWorld w →
 consistent_open w world = record {
   world = world;
   run = tt;
-  lists_are = refl;
-  seats_are = record { threads = seats_open w w.scripts; behind = behind_open w w.scripts };
-  fences_are = fences_open w;
+  past_is = record { lists_are = refl; places_are = places_open w.scripts; fences_are = refl };
   held_are = held_open w world;
   device = device_open w world;
 }

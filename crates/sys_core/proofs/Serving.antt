@@ -18,10 +18,10 @@ use Rattle.d3d_machine.specs.Effects.{memory_by}
 use Rattle.d3d_machine.specs.Lists.{record_refusal, close_refusal, reset_refusal, lists_after_record, lists_after_close, lists_after_reset}
 use Rattle.d3d_machine.proofs.CallsOnLists.{changed_unless, ended_unless}
 use Rattle.vk_port.specs.VkState.{VkState}
-use Rattle.sys_core.specs.Parts.{lists_by, device_by, updates_at}
+use Rattle.sys_core.specs.Parts.{lists_by, device_by}
 use Rattle.sys_core.specs.Memory.{memory_of, device_words}
 use Rattle.sys_core.specs.Serving.{HasBuffers}
-use Rattle.sys_core.specs.Values.{last_of}
+use Rattle.d3d_machine.specs.Past.{updates_at, last_of}
 use Rattle.sys_core.proofs.Spread.{device_of_memory}
 
 pub record_lists_by : (w : World) (lists : List Listed) (l : ListId) (what : Record) → lists_by w lists (call.Recording l what) ≡ lists_after_record w lists l.0 what

@@ -33,7 +33,7 @@ use Rattle.sys_core.specs.Steps.{is_ready_thread, is_ready_worker, thread_event,
 use Rattle.sys_core.specs.Work.{work}
 use Rattle.sys_core.specs.Ahead.{IsWhole}
 use Rattle.sys_core.specs.Keeps.{Keeps}
-use Rattle.sys_core.proofs.Values.{values_are}
+use Rattle.sys_core.proofs.PastParts.{lists_now, values_are}
 use Rattle.sys_core.proofs.Threading.{reply_seen, device_awake, device_seen}
 use Rattle.sys_core.proofs.Whole.{whole_call, whole_awake, whole_submit, whole_step}
 use Rattle.sys_core.proofs.Work.{call_falls, awake_falls, submit_falls, device_falls}
@@ -68,8 +68,8 @@ module _ {D : Type 0} (state : D → VkState) (plan_of : D → Option DevicePlan
   call_went t c waits next a b same = record {
     falls = omega (arith, call_falls w h (state d) (device_by w p.lists (state d) c) t c (reply_by w p.lists (map updates_in p.fences) (state d) c) next refl refl, same);
     rest = omega (arith, same);
-    whole = whole_call w h p.lists (map updates_in p.fences) (state d) t c keeps.consistent.world keeps.consistent.run keeps.consistent.device keeps.consistent.lists_are
-        (values_are w h (map updates_in p.fences) keeps.consistent.fences_are) waits next;
+    whole = whole_call w h p.lists (map updates_in p.fences) (state d) t c keeps.consistent.world keeps.consistent.run keeps.consistent.device (lists_now w h p.lists p.seats (map updates_in p.fences) keeps.consistent.past_is)
+        (values_are w h p.lists p.seats (map updates_in p.fences) keeps.consistent.past_is keeps.consistent.world keeps.consistent.run) waits next;
   }
 
   -- a thread's step, of the event that it makes

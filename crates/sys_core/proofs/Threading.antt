@@ -27,15 +27,15 @@ use Rattle.sys_core.specs.declared.parts.Armed.{Armed}
 use Rattle.sys_core.specs.declared.parts.Seat.{Seat}
 use Rattle.sys_core.specs.declared.parts.Parts.{Parts}
 use Rattle.sys_core.specs.Memory.{memory_of, device_words}
-use Rattle.sys_core.specs.Parts.{queued, updates_in, state_by, reply_by, device_by, seat_after}
+use Rattle.sys_core.specs.Parts.{queued, updates_in, wait_since, state_by, reply_by, device_by, seat_after}
 use Rattle.sys_core.specs.Steps.{is_ready_thread, is_ready_place, thread_event, place_event, call_event, seen_state, after_event}
-use Rattle.sys_core.specs.Consistent.{place_from, waiting_from}
+use Rattle.d3d_machine.specs.Past.{waiting_from}
 use Rattle.sys_core.specs.Serving.{HasBuffers}
 use Rattle.sys_core.specs.Keeps.{Keeps, ready_by}
 use Rattle.sys_core.proofs.Buffers.{has_buffers}
 use Rattle.sys_core.proofs.Spread.{as_many, device_of_memory}
 use Rattle.sys_core.proofs.Calling.{answer_alike}
-use Rattle.sys_core.proofs.Values.{values_are}
+use Rattle.sys_core.proofs.PastParts.{lists_now, seats_many, values_are}
 use Rattle.sys_core.proofs.Keeping.{place_is, ready_is}
 
 -- a thread's place written after a call
@@ -45,8 +45,10 @@ seat_written fences c seats t s y at is = ap (set seats t) is ∙ set_is_changed
 
 module _ {D : Type 0} (state : D → VkState) (plan_of : D → Option DevicePlan) (w : World) (h : List Event) (p : Parts) (d : D) (keeps : Keeps state plan_of w h p d) where
   seats_length : length p.seats ≡ length w.scripts
-  seats_length =
-      sym (length-map p.seats (place_from w h)) ∙ ap length (sym keeps.consistent.seats_are.threads) ∙ (run_has_shape w h).desk.threads
+  seats_length = seats_many w h p.lists p.seats (map updates_in p.fences) keeps.consistent.past_is
+
+  lists_are : p.lists ≡ (state_after w h).desk.lists
+  lists_are = lists_now w h p.lists p.seats (map updates_in p.fences) keeps.consistent.past_is
 
   no_thread : (o : Option (List Call)) (x : Option Place) → o ≡ None → x ≡ None →
       is_ready_place (elim o [ None ↦ [] | Some cs ↦ cs ]) (elim x [ None ↦ opening_place | Some y ↦ y ]) ≡ true → ⊥
@@ -76,14 +78,14 @@ module _ {D : Type 0} (state : D → VkState) (plan_of : D → Option DevicePlan
   pub next_is : (t : ℕ) (s : Seat) (c : Call) → slice_get p.seats t ≡ Some s → slice_get (script_of w t) s.made ≡ Some c → next_call w (state_after w h).desk t ≡ Some c
   next_is t s c at next = ap (λ (x : Place). slice_get (script_of w t) x.made) (place_is w h p (state d) t s keeps.consistent at) ∙ next
 
-  pub waits_is : (t : ℕ) (s : Seat) → slice_get p.seats t ≡ Some s → (place_of (state_after w h).desk t).waits ≡ option_map (waiting_from w h) s.waits
+  pub waits_is : (t : ℕ) (s : Seat) → slice_get p.seats t ≡ Some s → (place_of (state_after w h).desk t).waits ≡ option_map (waiting_from (map updates_in p.fences)) (option_map wait_since s.waits)
   waits_is t s at = ap (λ (x : Place). x.waits) (place_is w h p (state d) t s keeps.consistent at)
 
   pub buffers_are : HasBuffers w (state d)
   buffers_are = has_buffers w (state d) keeps.consistent.world keeps.consistent.device.objects
 
   pub lists_count : length p.lists ≡ length w.lists
-  lists_count = ap length keeps.consistent.lists_are ∙ (run_has_shape w h).desk.lists
+  lists_count = ap length lists_are ∙ (run_has_shape w h).desk.lists
 
   pub queues_count : length p.held ≡ length w.queues
   queues_count = sym (length-map p.held queued) ∙ keeps.consistent.held_are.count
@@ -94,20 +96,20 @@ module _ {D : Type 0} (state : D → VkState) (plan_of : D → Option DevicePlan
   -- the event of a thread that waits
   pub awake_event : (t : ThreadId) (s : Seat) (a : Armed) → slice_get p.seats t.0 ≡ Some s → s.waits ≡ Some a → event.Awake t ≡ thread_event w h (state d) t.0
   awake_event t s a at waits =
-      sym (ap (place_event w (seen_state w h (state d)) t.0) (waits_is t.0 s at ∙ ap (option_map (waiting_from w h)) waits))
+      sym (ap (place_event w (seen_state w h (state d)) t.0) (waits_is t.0 s at ∙ ap (λ o. option_map (waiting_from (map updates_in p.fences)) (option_map wait_since o)) waits))
 
   pub reply_seen : (c : Call) → reply_by w p.lists (map updates_in p.fences) (state d) c ≡ reply_of w (seen_state w h (state d)) c
   reply_seen c =
-      ap (λ ls. reply_or (refusal_by w ls c) (good_reply (state_by w p.lists (map updates_in p.fences) (state d)) c)) keeps.consistent.lists_are
+      ap (λ ls. reply_or (refusal_by w ls c) (good_reply (state_by w p.lists (map updates_in p.fences) (state d)) c)) lists_are
       ∙ ap (reply_or (refusal w (state_after w h).desk c))
-      (answer_alike (state_by w p.lists (map updates_in p.fences) (state d)) (seen_state w h (state d)) (does c).asks (does c).reads (values_are w h (map updates_in p.fences) keeps.consistent.fences_are) (λ _. refl))
+      (answer_alike (state_by w p.lists (map updates_in p.fences) (state d)) (seen_state w h (state d)) (does c).asks (does c).reads (values_are w h p.lists p.seats (map updates_in p.fences) keeps.consistent.past_is keeps.consistent.world keeps.consistent.run) (λ _. refl))
 
   -- the event of a thread that makes its next call
   pub call_event_is : (t : ThreadId) (s : Seat) (c : Call) → slice_get p.seats t.0 ≡ Some s → s.waits ≡ None → slice_get (script_of w t.0) s.made ≡ Some c →
       event.Call t c (reply_by w p.lists (map updates_in p.fences) (state d) c) ≡ thread_event w h (state d) t.0
   call_event_is t s c at waits next =
       ap (event.Call t c) (reply_seen c)
-      ∙ sym (ap (place_event w (seen_state w h (state d)) t.0) (waits_is t.0 s at ∙ ap (option_map (waiting_from w h)) waits)
+      ∙ sym (ap (place_event w (seen_state w h (state d)) t.0) (waits_is t.0 s at ∙ ap (λ o. option_map (waiting_from (map updates_in p.fences)) (option_map wait_since o)) waits)
       ∙ ap (call_event w (seen_state w h (state d)) t.0) (next_is t.0 s c at next))
 
   -- the device after a thread's waking
@@ -121,4 +123,4 @@ module _ {D : Type 0} (state : D → VkState) (plan_of : D → Option DevicePlan
   device_seen c t r =
       let vs : List (List ℕ) → VkState = λ ws. record (state d) { words = ws } in
       let mine : List (List ℕ) = memory_of w (state d).words in
-      ap (λ ls. vs (device_words w (memory_by (done w ls c).stores mine))) keeps.consistent.lists_are
+      ap (λ ls. vs (device_words w (memory_by (done w ls c).stores mine))) lists_are

@@ -9,7 +9,8 @@ use Rattle.std.specs.Prelude.{◌==◌, if◌then◌else◌}
 use Rattle.dx_base.specs.Lists.{changed_at}
 use Rattle.dx_base.proofs.Lists.{changed_past}
 use Rattle.sys_core.specs.declared.parts.Signalled.{Signalled}
-use Rattle.sys_core.specs.Parts.{updates_in, updates_at, with_number, HasRoomAt, HasRoomFor}
+use Rattle.d3d_machine.specs.Past.{updates_at}
+use Rattle.sys_core.specs.Parts.{updates_in, with_number, HasRoomAt, HasRoomFor}
 
 pub updates_of_none : (fences : List (Roomy ℕ)) (f : ℕ) → slice_get fences f ≡ None → updates_at (map updates_in fences) f ≡ []
 updates_of_none [] f is = refl

@@ -31,7 +31,7 @@ use Rattle.vk_port.specs.Enabled.{enabled_steps}
 use Rattle.vk_port.specs.VkState.{VkState, lane_of}
 use Rattle.vk_port.specs.VkState as vulkan
 use Rattle.sys_core.specs.Parts.{state_by, reply_by, device_by}
-use Rattle.sys_core.specs.Values.{last_of}
+use Rattle.d3d_machine.specs.Past.{last_of}
 use Rattle.sys_core.specs.Lowering.{plan_of_world, opening_batches, lowered_commands}
 use Rattle.sys_core.specs.Memory.{memory_of, device_words}
 use Rattle.sys_core.specs.Steps.{submitted_of, step_events, after_submits}

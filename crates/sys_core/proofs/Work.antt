@@ -14,7 +14,7 @@ use Rattle.d3d_machine.specs.declared.calls.Call.{Call}
 use Rattle.d3d_machine.specs.declared.events.Listed.{Listed}
 use Rattle.dx_base.specs.Effects.{At, unless}
 use Rattle.d3d_machine.specs.CallEffects.{here_of, Task, executes, signals, does}
-use Rattle.d3d_machine.proofs.CallEffects.{waits_done}
+use Rattle.d3d_machine.proofs.CallEffects.{waits_done, length_marked}
 use Rattle.d3d_machine.specs.declared.calls.Reply.{Reply}
 use Rattle.d3d_machine.specs.declared.events.Operation.{Operation}
 use Rattle.d3d_machine.specs.declared.events.Operation.TheVariants as operation
@@ -22,11 +22,11 @@ use Rattle.d3d_machine.specs.declared.events.Event.{Event}
 use Rattle.d3d_machine.specs.declared.events.Event.TheVariants as event
 use Rattle.d3d_machine.specs.State.{Waiting, Place, Desk, State, first_state, place_of, script_of, next_call}
 use Rattle.d3d_machine.specs.Replies.{refusal_by}
-use Rattle.d3d_machine.specs.Effects.{operation_of, operation_given, done, marked_option, marked_place, desk_after_operation, dropped, head_of}
+use Rattle.d3d_machine.specs.Effects.{operation_of, operation_given, done, marked_places, marked_option, marked_place, desk_after_operation, dropped, head_of}
 use Rattle.d3d_machine.specs.Play.{state_after}
 use Rattle.d3d_machine.specs.Operations.{called_by, operations}
 use Rattle.d3d_machine.proofs.Operations.{operations_append}
-use Rattle.d3d_machine.proofs.Places.{place_in, kept_map, scripted}
+use Rattle.d3d_machine.proofs.Places.{place_in, made_marked, scripted}
 use Rattle.d3d_machine.proofs.Runs.{state_after_append}
 use Rattle.d3d_machine.proofs.Shape.{run_has_shape}
 use Rattle.d3d_machine.proofs.Short.{commands_are_few}
@@ -44,7 +44,8 @@ use Rattle.sys_core.specs.Lowering.{lowered_commands, lower_record, trailing}
 use Rattle.sys_core.specs.Steps.{submitted_of, step_events}
 use Rattle.sys_core.specs.Work.{task_weight, given_weight, begun_weight, call_weight, operation_weight, calls_work, operations_work, wait_work, place_work, threads_work, sum_from, queue_work, held_work, work}
 use Rattle.sys_core.proofs.Holding.{drop_here}
-use Rattle.sys_core.proofs.Seating.{call_place, marked_by, threads_after_call}
+use Rattle.d3d_machine.specs.Past.{calls}
+use Rattle.d3d_machine.proofs.PastPlaces.{place_moved, threads_after}
 use Rattle.sys_core.proofs.Standing.{of_queue_append}
 
 -- a sum of numbers none of which grew
@@ -177,7 +178,7 @@ held_call w h t c r v u journal =
 
 -- a thread's work after its next call
 place_called : (d : Desk) (c : Call) (o : Option (At ℕ)) (script : List Call) (p : Place) → calls_work (drop p.made script) ≡ call_weight c + calls_work (drop (p.made + 1) script) →
-    place_work script (call_place d o p) + call_weight c ≤ place_work script p + begun_weight o
+    place_work script (place_moved d (calls o) p) + call_weight c ≤ place_work script p + begun_weight o
 place_called d c None script p paid = omega (arith, paid)
 place_called d c (Some x) script p paid = omega (arith, paid)
 
@@ -189,13 +190,9 @@ place_marked : (f v : ℕ) (script : List Call) (p : Place) → place_work scrip
 place_marked f v script p = ap (λ n. calls_work (drop p.made script) + n) (wait_marked f v p.waits)
 
 -- a value that a fence takes leaves the work of the threads whose waits it meets
-place_signalled : (o : Option (At ℕ)) (script : List Call) (p : Place) → place_work script (marked_by o p) ≡ place_work script p
-place_signalled None script p = refl
-place_signalled (Some x) script p = place_marked x.place x.what script p
-
-made_signalled : (o : Option (At ℕ)) (p : Place) → (marked_by o p).made ≡ p.made
-made_signalled None p = refl
-made_signalled (Some x) p = refl
+threads_marked : (o : Option (At ℕ)) (scripts : List (List Call)) (places : List Place) → threads_work scripts (marked_places o places) ≡ threads_work scripts places
+threads_marked None scripts places = refl
+threads_marked (Some x) scripts places = threads_mapped (marked_place x.place x.what) (place_marked x.place x.what) scripts places
 
 -- the threads' work after a call
 threads_called : (w : World) (h : List Event) (t : ThreadId) (c : Call) (r : Reply) → next_call w (state_after w h).desk t.0 ≡ Some c →
@@ -204,19 +201,19 @@ threads_called w h t c r next =
     let d : Desk = (state_after w h).desk in
     let o : Option (At ℕ) = (done w d.lists c).sets in
     let x : Option (At ℕ) = (done w d.lists c).waits in
-    let places : List Place = map (marked_by o) d.threads in
+    let places : List Place = marked_places o d.threads in
     let p : Place = place_in places t.0 in
     let script : List Call = script_of w t.0 in
-    let threads : (state_after w (h ++ event.Call t c r ∷ [])).desk.threads ≡ changed_at (call_place d x) t.0 places =
-    ap (λ (s : State). s.desk.threads) (state_after_append w h (event.Call t c r)) ∙ threads_after_call w d t.0 c in
-    let made : p.made ≡ (place_of d t.0).made = kept_map (λ x. x.made) (marked_by o) (made_signalled o) d.threads t.0 in
+    let threads : (state_after w (h ++ event.Call t c r ∷ [])).desk.threads ≡ changed_at (place_moved d (calls x)) t.0 places =
+    ap (λ (s : State). s.desk.threads) (state_after_append w h (event.Call t c r)) ∙ threads_after w (state_after w h) (event.Call t c r) in
+    let made : p.made ≡ (place_of d t.0).made = made_marked o d.threads t.0 in
     let inside : t.0 < length w.scripts = scripted w.scripts t.0 (place_of d t.0).made c next in
-    let placed : t.0 < length places = omega (arith, inside, (run_has_shape w h).desk.threads, length-map d.threads (marked_by o)) in
+    let placed : t.0 < length places = omega (arith, inside, (run_has_shape w h).desk.threads, length_marked o d.threads) in
     let paid : calls_work (drop p.made script) ≡ call_weight c + calls_work (drop (p.made + 1) script) =
     subst (λ m. calls_work (drop m script) ≡ call_weight c + calls_work (drop (m + 1) script)) (sym made) (ap calls_work (drop_here (place_of d t.0).made script c next)) in
-    let less : threads_work w.scripts (changed_at (call_place d x) t.0 places) + call_weight c ≤ threads_work w.scripts places + begun_weight x =
-    threads_changed (call_place d x) w.scripts places t.0 (call_weight c) (begun_weight x) inside placed (place_called d c x script p paid) in
-    omega (arith, ap (threads_work w.scripts) threads, less, ap begun_weight (waits_done w d.lists c), threads_mapped (marked_by o) (place_signalled o) w.scripts d.threads)
+    let less : threads_work w.scripts (changed_at (place_moved d (calls x)) t.0 places) + call_weight c ≤ threads_work w.scripts places + begun_weight x =
+    threads_changed (place_moved d (calls x)) w.scripts places t.0 (call_weight c) (begun_weight x) inside placed (place_called d c x script p paid) in
+    omega (arith, ap (threads_work w.scripts) threads, less, ap begun_weight (waits_done w d.lists c), threads_marked o w.scripts d.threads)
 
 -- a call leaves less work
 pub call_falls : (w : World) (h : List Event) (v u : VkState) (t : ThreadId) (c : Call) (r : Reply) → next_call w (state_after w h).desk t.0 ≡ Some c →

@@ -166,9 +166,7 @@ consistent_submit w h lists seats fences held v q x o is at head =
     record {
       world = is.world;
       run = is.run;
-      lists_are = is.lists_are;
-      seats_are = is.seats_are;
-      fences_are = is.fences_are;
+      past_is = is.past_is;
       held_are = held_after w h v u q x o held is.held_are at head (omega (arith, (stands.queues q within).done, holds.submitted_is, count))
           (λ p inside. submitted_after w h v b p stands after inside);
       device = record {

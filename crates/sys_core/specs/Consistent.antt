@@ -1,53 +1,30 @@
 -- What the system's parts are after a history, and what the system keeps at every step.
 use Rattle.std.specs.Prelude.{ℕ, ◌≡◌, ◌≤◌, ◌<◌, ◌+◌, ◌-◌, ◌&&◌, nat_lt, List, [], ◌∷◌, length, map, take, drop, slice_get, Option, Some, None, Bool, true}
 use Rattle.std.specs.List.{list_all}
-use Rattle.std.specs.Option.{option_map}
 use Rattle.d3d_machine.specs.declared.world.World.{World}
 use Rattle.d3d_machine.specs.declared.events.Listed.{Listed}
 use Rattle.d3d_machine.specs.declared.events.Operation.{Operation}
 use Rattle.d3d_machine.specs.declared.events.Operation.TheVariants.{Execute, Signal}
 use Rattle.d3d_machine.specs.declared.events.Event.{Event}
 use Rattle.d3d_machine.specs.World.{IsWorld}
-use Rattle.d3d_machine.specs.State.{Waiting, Place}
-use Rattle.d3d_machine.specs.Play.{IsRunButWords, state_after}
-use Rattle.d3d_machine.specs.Fences.{applied_updates, is_met}
+use Rattle.d3d_machine.specs.Play.{IsRunButWords}
+use Rattle.d3d_machine.specs.Past.{PlaceSince, Past, past}
 use Rattle.d3d_machine.specs.Operations.{operations, counter}
 use Rattle.vk_port.specs.Journal.{of_queue, first_number}
 use Rattle.vk_port.specs.Valid.{IsValid, Matches}
 use Rattle.vk_port.specs.VkState.{VkState, lane_of, counter_of}
-use Rattle.sys_core.specs.declared.parts.Armed.{Armed}
 use Rattle.sys_core.specs.declared.parts.Seat.{Seat}
 use Rattle.sys_core.specs.declared.parts.Signalled.{Signalled}
-use Rattle.sys_core.specs.Parts.{Queued}
+use Rattle.sys_core.specs.Parts.{place_since, Queued}
 use Rattle.sys_core.specs.Lowering.{plan_of_world, last_signal}
 use Rattle.sys_core.specs.Stands.{Stands}
 use Rattle.sys_core.specs.Steps.{submitted_of}
 
--- a wait is met by an applied update from that place on
-abbrev pub is_armed_met : World → List Event → Armed → Bool
-is_armed_met w h a = is_met (applied_updates w h a.fence.0) a.since a.value
-
-abbrev pub waiting_from : World → List Event → Armed → Waiting
-waiting_from w h a = record { fence = a.fence.0; value = a.value; marked = is_armed_met w h a }
-
--- the Direct3D machine's place of a thread, from the system's
-abbrev pub place_from : World → List Event → Seat → Place
-place_from w h s = record { made = s.made; waits = option_map (waiting_from w h) s.waits }
-
--- a wait's place is that of an applied update
-abbrev pub is_behind : World → List Event → Option Armed → Bool
-is_behind w h None = true
-is_behind w h (Some a) = nat_lt a.fence.0 (length w.fences) && nat_lt a.since (length (applied_updates w h a.fence.0))
-
--- the threads' places
-pub record AreSeats (w : World) (h : List Event) (seats : List Seat) : Type 0 where
-  pub threads : (state_after w h).desk.threads ≡ map (place_from w h) seats
-  pub behind : list_all (λ s. is_behind w h s.waits) seats ≡ true
-
--- the fences' applied updates
-pub record AreFences (w : World) (h : List Event) (fences : List (List ℕ)) : Type 0 where
-  pub count : length fences ≡ length w.fences
-  pub each : (f : ℕ) → f < length w.fences → slice_get fences f ≡ Some (applied_updates w h f)
+-- the lists, the threads' places and the fences' updates are those of the past
+pub record ArePast (p : Past) (lists : List Listed) (places : List PlaceSince) (fences : List (List ℕ)) : Type 0 where
+  pub lists_are : lists ≡ p.state.desk.lists
+  pub places_are : places ≡ p.places
+  pub fences_are : fences ≡ p.updates
 
 -- the signals among operations of which the first has number n
 abbrev pub signals_of : ℕ → List Operation → List Signalled
@@ -86,8 +63,6 @@ pub record IsDevice (w : World) (h : List Event) (v : VkState) : Type 0 where
 pub record IsConsistent (w : World) (h : List Event) (lists : List Listed) (seats : List Seat) (fences : List (List ℕ)) (held : List Queued) (v : VkState) : Type 0 where
   pub world : IsWorld w
   pub run : IsRunButWords w h
-  pub lists_are : lists ≡ (state_after w h).desk.lists
-  pub seats_are : AreSeats w h seats
-  pub fences_are : AreFences w h fences
+  pub past_is : ArePast (past w h) lists (map place_since seats) fences
   pub held_are : AreHeld w h v held
   pub device : IsDevice w h v

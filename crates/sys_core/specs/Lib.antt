@@ -16,5 +16,4 @@ pub mod Goes
 pub mod Over
 pub mod Opened
 pub mod Finished
-pub mod Values
 pub mod Laws

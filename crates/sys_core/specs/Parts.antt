@@ -1,5 +1,6 @@
 -- What contracts see of the system's parts, and how each kind of step changes them.
 use Rattle.std.specs.Prelude.{ℕ, ◌≡◌, ◌≤◌, ◌+◌, ◌-◌, ◌==◌, List, [], ◌∷◌, ◌++◌, length, map, drop, slice_get, slice_index_or, Option, Some, None, Bool, if◌then◌else◌}
+use Rattle.std.specs.Option.{option_map}
 use Rattle.dx_base.specs.Lists.{changed_at}
 use Rattle.dx_base.specs.Roomy.{Roomy}
 use Rattle.dx_base.specs.Effects.{At, changed_by}
@@ -20,7 +21,7 @@ use Rattle.sys_core.specs.declared.parts.Seat.{Seat}
 use Rattle.sys_core.specs.declared.parts.Signalled.{Signalled}
 use Rattle.sys_core.specs.declared.parts.Held.{Held}
 use Rattle.sys_core.specs.Memory.{memory_of, device_words}
-use Rattle.sys_core.specs.Values.{last_of}
+use Rattle.d3d_machine.specs.Past.{WaitSince, PlaceSince, updates_at, last_of}
 
 -- a queue: its operations that are not submitted, how many are, the last submitted signal's number, and the
 -- submitted signals that have not completed
@@ -62,6 +63,13 @@ lists_by w lists c = changed_by (changed w) (done w lists c).list lists
 abbrev pub device_by : World → List Listed → VkState → Call → VkState
 device_by w lists v c = record v { words = device_words w (memory_by (done w lists c).stores (memory_of w v.words)) }
 
+-- the place of a thread, in the past's words
+abbrev pub wait_since : Armed → WaitSince
+wait_since a = record { fence = a.fence.0; value = a.value; since = a.since }
+
+abbrev pub place_since : Seat → PlaceSince
+place_since s = record { made = s.made; waits = option_map wait_since s.waits }
+
 -- the queue with one more operation
 abbrev pub with_operation : Operation → Queued → Queued
 with_operation o x = record x { operations = x.operations ++ o ∷ [] }
@@ -73,10 +81,6 @@ held_by w lists c held = changed_by with_operation (operation_given lists (done 
 -- the fences' updates after a call: a host signal gives its fence one more
 abbrev pub fences_by : World → List Listed → Call → List (List ℕ) → List (List ℕ)
 fences_by w lists c fences = changed_by with_one (done w lists c).sets fences
-
--- the applied updates of a fence
-abbrev pub updates_at : List (List ℕ) → ℕ → List ℕ
-updates_at fences f = slice_index_or fences f []
 
 abbrev pub armed_or : List (List ℕ) → Option (At ℕ) → Option Armed → Option Armed
 armed_or fences None o = o

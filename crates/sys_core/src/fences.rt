@@ -3,8 +3,8 @@
 ghost use Rattle.std.specs.Prelude.{◌≡◌, ◌-◌, ◌++◌, ◌∷◌, [], map, length, IfOk, OnOk};
 ghost use Rattle.dx_base.specs.Lists.{changed_at};
 ghost use Rattle.d3d_machine.specs.Fences.{is_met};
-ghost use Rattle.sys_core.specs.Parts.{updates_in, is_met_by as met_by, updates_at, HasRoomAt};
-ghost use Rattle.sys_core.specs.Values.{last_of};
+ghost use Rattle.sys_core.specs.Parts.{updates_in, is_met_by as met_by, HasRoomAt};
+ghost use Rattle.d3d_machine.specs.Past.{updates_at, last_of};
 
 use crate::parts::Armed;
 use dx_base::{FenceId, Memory, Room, Seq};

@@ -1,6 +1,6 @@
 -- So far there is the last update of each fence before the place.
 use Rattle.std.proofs.Common.{◌≡◌, map, take}
-use Rattle.sys_core.specs.Values.{last_of}
+use Rattle.d3d_machine.specs.Past.{last_of}
 use Rattle.sys_core.proofs.fences.last_values.Given as goal
 
 abbrev pub invariant-loop-updates : goal.invariant-loop-updates
