@@ -117,65 +117,75 @@ fn fill(rt: &impl Abort, alloc: Global, world: &World, lists: &mut Lists) -> Res
     Ok(())
 }
 
-#[test]
-fn calls_on_lists_are_refused_in_the_order_of_the_table(rt: HostRuntime) -> Result<(), Fail> {
-    let alloc = rt.alloc();
+const FAIL: Option<Hresult> = Some(Hresult::Fail);
+
+const INVALID: Option<Hresult> = Some(Hresult::InvalidArg);
+
+const REFUSALS: [(Step, Option<Hresult>); 21] = [
+    (Step::Copy(0, 4), FAIL),
+    (Step::Close(0), FAIL),
+    (Step::Execute(0), None),
+    (Step::Reset(0, 0), None),
+    (Step::Reset(0, 1), FAIL),
+    (Step::Reset(1, 0), INVALID),
+    (Step::Reset(1, 1), None),
+    (Step::Reset(2, 7), INVALID),
+    (Step::Copy(0, 4), None),
+    (Step::Execute(0), FAIL),
+    (Step::Close(0), None),
+    (Step::Execute(0), None),
+    (Step::Reset(2, 0), None),
+    (Step::Copy(1, 20), None),
+    (Step::Copy(1, 4), None),
+    (Step::Close(1), INVALID),
+    (Step::Close(1), FAIL),
+    (Step::Execute(1), FAIL),
+    (Step::Reset(1, 1), None),
+    (Step::Close(1), None),
+    (Step::Execute(9), FAIL),
+];
+
+/// Makes the steps of a table on the lists of a world.
+fn refuses(
+    rt: &impl Abort,
+    alloc: Global,
+    world: &World,
+    rows: &[(Step, Option<Hresult>)],
+) -> Result<(), Memory> {
+    let mut lists = Lists::new(alloc, world)?;
+    let made = expect(rt, alloc, world, &mut lists, rows);
+    drop(lists);
+    made
+}
+
+/// Makes the steps of a table on the lists of a small world.
+fn refused(rt: &impl Abort, alloc: Global, rows: &[(Step, Option<Hresult>)]) -> Result<(), Memory> {
     let world = small_world(alloc)?;
-    let mut lists = Lists::new(alloc, &world)?;
-    let fail = Some(Hresult::Fail);
-    let invalid = Some(Hresult::InvalidArg);
-    let rows = [
-        (Step::Copy(0, 4), fail),
-        (Step::Close(0), fail),
-        (Step::Execute(0), None),
-        (Step::Reset(0, 0), None),
-        (Step::Reset(0, 1), fail),
-        (Step::Reset(1, 0), invalid),
-        (Step::Reset(1, 1), None),
-        (Step::Reset(2, 7), invalid),
-        (Step::Copy(0, 4), None),
-        (Step::Execute(0), fail),
-        (Step::Close(0), None),
-        (Step::Execute(0), None),
-        (Step::Reset(2, 0), None),
-        (Step::Copy(1, 20), None),
-        (Step::Copy(1, 4), None),
-        (Step::Close(1), invalid),
-        (Step::Close(1), fail),
-        (Step::Execute(1), fail),
-        (Step::Reset(1, 1), None),
-        (Step::Close(1), None),
-        (Step::Execute(9), fail),
-    ];
-    expect(&rt, alloc, &world, &mut lists, &rows)?;
-    Ok(())
+    let made = refuses(rt, alloc, &world, rows);
+    drop(world);
+    made
 }
 
 #[test]
-fn a_list_takes_1024_commands_and_no_more(rt: HostRuntime) -> Result<(), Fail> {
-    let alloc = rt.alloc();
-    let world = small_world(alloc)?;
-    let mut lists = Lists::new(alloc, &world)?;
-    expect(&rt, alloc, &world, &mut lists, &[(Step::Reset(0, 0), None)])?;
-    fill(&rt, alloc, &world, &mut lists)?;
-    expect(
-        &rt,
-        alloc,
-        &world,
-        &mut lists,
-        &[(Step::Close(0), None), (Step::Reset(0, 0), None)],
-    )?;
-    fill(&rt, alloc, &world, &mut lists)?;
-    expect(
-        &rt,
-        alloc,
-        &world,
-        &mut lists,
-        &[
-            (Step::Copy(0, 20), None),
-            (Step::Close(0), Some(Hresult::Fail)),
-        ],
-    )?;
+fn calls_on_lists_are_refused_in_the_order_of_the_table(rt: HostRuntime) -> Result<(), Fail> {
+    refused(&rt, rt.alloc(), &REFUSALS)?;
+    Ok(())
+}
+
+/// Fills the first list, and records one command more.
+fn overfill(
+    rt: &impl Abort,
+    alloc: Global,
+    world: &World,
+    lists: &mut Lists,
+) -> Result<(), Memory> {
+    expect(rt, alloc, world, lists, &[(Step::Reset(0, 0), None)])?;
+    fill(rt, alloc, world, lists)?;
+    let again = [(Step::Close(0), None), (Step::Reset(0, 0), None)];
+    expect(rt, alloc, world, lists, &again)?;
+    fill(rt, alloc, world, lists)?;
+    let past = [(Step::Copy(0, 20), None), (Step::Close(0), FAIL)];
+    expect(rt, alloc, world, lists, &past)?;
     assert!(rt; lists.len() == 3);
     assert!(rt;
         lists.state(ListId(0)) == ListState::Failed,
@@ -184,35 +194,71 @@ fn a_list_takes_1024_commands_and_no_more(rt: HostRuntime) -> Result<(), Fail> {
     Ok(())
 }
 
-#[test]
-fn lists_are_gathered_in_the_order_of_the_call(rt: HostRuntime) -> Result<(), Fail> {
-    let alloc = rt.alloc();
+fn overfills(rt: &impl Abort, alloc: Global, world: &World) -> Result<(), Memory> {
+    let mut lists = Lists::new(alloc, world)?;
+    let filled = overfill(rt, alloc, world, &mut lists);
+    drop(lists);
+    filled
+}
+
+fn overfilled(rt: &impl Abort, alloc: Global) -> Result<(), Memory> {
     let world = small_world(alloc)?;
-    let mut lists = Lists::new(alloc, &world)?;
-    let rows = [
-        (Step::Reset(0, 0), None),
-        (Step::Copy(0, 4), None),
-        (Step::Copy(0, 8), None),
-        (Step::Close(0), None),
-        (Step::Reset(1, 0), None),
-        (Step::Copy(1, 12), None),
-        (Step::Close(1), None),
-    ];
-    expect(&rt, alloc, &world, &mut lists, &rows)?;
-    let gathered = lists.gather(
-        alloc,
-        &world,
-        QueueId(0),
-        &[ListId(1), ListId(2), ListId(0)],
-    )?;
+    let filled = overfills(rt, alloc, &world);
+    drop(world);
+    filled
+}
+
+#[test]
+fn a_list_takes_1024_commands_and_no_more(rt: HostRuntime) -> Result<(), Fail> {
+    overfilled(&rt, rt.alloc())?;
+    Ok(())
+}
+
+const RECORDINGS: [(Step, Option<Hresult>); 7] = [
+    (Step::Reset(0, 0), None),
+    (Step::Copy(0, 4), None),
+    (Step::Copy(0, 8), None),
+    (Step::Close(0), None),
+    (Step::Reset(1, 0), None),
+    (Step::Copy(1, 12), None),
+    (Step::Close(1), None),
+];
+
+/// Records commands into two lists, and gathers three.
+fn gather(rt: &impl Abort, alloc: Global, world: &World, lists: &mut Lists) -> Result<(), Memory> {
+    expect(rt, alloc, world, lists, &RECORDINGS)?;
+    let order = [ListId(1), ListId(2), ListId(0)];
     let want = [
         Command { what: copy_of(12) },
         Command { what: copy_of(4) },
         Command { what: copy_of(8) },
     ];
-    assert!(rt; gathered == Ok(Seq::from_slice(alloc, &want)?));
+    match lists.gather(alloc, world, QueueId(0), &order)? {
+        Ok(commands) => assert!(rt; commands.as_slice() == want.as_slice()),
+        Err(error) => assert!(rt; false, "refused: {error:?}"),
+    }
     assert!(rt; lists.len() == 3);
     assert!(rt; lists.closed(ListId(1)).is_some());
+    Ok(())
+}
+
+fn gathers(rt: &impl Abort, alloc: Global, world: &World) -> Result<(), Memory> {
+    let mut lists = Lists::new(alloc, world)?;
+    let made = gather(rt, alloc, world, &mut lists);
+    drop(lists);
+    made
+}
+
+fn gathered(rt: &impl Abort, alloc: Global) -> Result<(), Memory> {
+    let world = small_world(alloc)?;
+    let made = gathers(rt, alloc, &world);
+    drop(world);
+    made
+}
+
+#[test]
+fn lists_are_gathered_in_the_order_of_the_call(rt: HostRuntime) -> Result<(), Fail> {
+    gathered(&rt, rt.alloc())?;
     Ok(())
 }
 

@@ -43,27 +43,33 @@ enum Given {
     Else,
 }
 
+/// A world with one queue, one list, a fence at 0, an upload and a readback buffer of four words, and no
+/// scripts.
+fn objects(alloc: Global) -> Result<World, Memory> {
+    let direct = ListType::Direct;
+    let upload = Resource::Buffer {
+        home: Home::Upload,
+        words: 4,
+    };
+    let readback = Resource::Buffer {
+        home: Home::Readback,
+        words: 4,
+    };
+    Ok(World {
+        queues: Seq::from_slice(alloc, &[direct])?,
+        fences: Seq::from_slice(alloc, &[0])?,
+        resources: Seq::from_slice(alloc, &[Some(upload), Some(readback)])?,
+        allocators: Seq::from_slice(alloc, &[direct])?,
+        lists: Seq::from_slice(alloc, &[direct])?,
+        scripts: Seq::new(alloc),
+    })
+}
+
 impl Player {
-    /// The machine of a world with one queue, one list, a fence at 0, and an upload and a readback buffer
-    /// of four words.
+    /// The machine of a world of scripts.
     fn new(alloc: Global, scripts: Seq<Seq<Call>>) -> Result<Player, Memory> {
-        let direct = ListType::Direct;
-        let upload = Resource::Buffer {
-            home: Home::Upload,
-            words: 4,
-        };
-        let readback = Resource::Buffer {
-            home: Home::Readback,
-            words: 4,
-        };
-        let world = World {
-            queues: Seq::from_slice(alloc, &[direct])?,
-            fences: Seq::from_slice(alloc, &[0])?,
-            resources: Seq::from_slice(alloc, &[Some(upload), Some(readback)])?,
-            allocators: Seq::from_slice(alloc, &[direct])?,
-            lists: Seq::from_slice(alloc, &[direct])?,
-            scripts,
-        };
+        let mut world = objects(alloc)?;
+        world.scripts = scripts;
         let machine = Machine::new(alloc, &world)?;
         Ok(Player { world, machine })
     }
@@ -137,129 +143,170 @@ fn read_all(buffer: ResourceId) -> Call {
     }
 }
 
-/// Appends the calls that record a copy of four words.
-fn push_recording(calls: &mut Seq<Call>) -> Result<(), Memory> {
-    calls.push(Call::Reset {
-        list: LIST,
-        allocator: AllocatorId(0),
-    })?;
-    calls.push(Call::Recording {
-        list: LIST,
-        what: Record::Copy {
-            to: READBACK,
-            to_offset: 0,
-            from: UPLOAD,
-            from_offset: 0,
-            bytes: 16,
-        },
-    })?;
-    calls.push(Call::Close { list: LIST })
+const RESET: Call = Call::Reset {
+    list: LIST,
+    allocator: AllocatorId(0),
+};
+
+const COPY: Call = Call::Recording {
+    list: LIST,
+    what: Record::Copy {
+        to: READBACK,
+        to_offset: 0,
+        from: UPLOAD,
+        from_offset: 0,
+        bytes: 16,
+    },
+};
+
+const ASK: Call = Call::Value { fence: FENCE };
+
+/// A signal of the host.
+fn host_signal(value: u64) -> Call {
+    Call::HostSignal {
+        fence: FENCE,
+        value,
+    }
 }
 
-/// The calls that write four words, copy them, signal the fence with 1, and read them back.
-fn round(alloc: Global) -> Result<Seq<Call>, Memory> {
-    let mut calls = Seq::new(alloc);
-    calls.push(Call::Write {
+/// A wait of the host.
+fn host_wait(value: u64) -> Call {
+    Call::HostWait {
+        fence: FENCE,
+        value,
+    }
+}
+
+/// The calls that write these words, copy them, signal the fence with 1, and read them back.
+fn round_of(alloc: Global, words: Seq<u32>, lists: Seq<ListId>) -> Result<Seq<Call>, Memory> {
+    let write = Call::Write {
         buffer: UPLOAD,
         offset: 0,
-        words: Seq::from_slice(alloc, &[1, 2, 3, 4])?,
-    })?;
-    push_recording(&mut calls)?;
-    calls.push(Call::Execute {
+        words,
+    };
+    let execute = Call::Execute {
         queue: QUEUE,
-        lists: Seq::from_slice(alloc, &[LIST])?,
-    })?;
-    calls.push(Call::Signal {
+        lists,
+    };
+    let signal = Call::Signal {
         queue: QUEUE,
         fence: FENCE,
         value: 1,
-    })?;
-    calls.push(Call::Value { fence: FENCE })?;
-    calls.push(Call::HostWait {
-        fence: FENCE,
-        value: 1,
-    })?;
-    calls.push(read_all(READBACK))?;
-    calls.push(read_all(UPLOAD))?;
-    calls.push(Call::HostSignal {
-        fence: FENCE,
-        value: 0,
-    })?;
-    calls.push(Call::Value { fence: FENCE })?;
-    Ok(calls)
+    };
+    Ok(Seq::from_vec(vec![in alloc;
+        write,
+        RESET,
+        COPY,
+        Call::Close { list: LIST },
+        execute,
+        signal,
+        ASK,
+        host_wait(1),
+        read_all(READBACK),
+        read_all(UPLOAD),
+        host_signal(0),
+        ASK,
+    ]?))
+}
+
+fn round(alloc: Global) -> Result<Seq<Call>, Memory> {
+    let words = Seq::from_slice(alloc, &[1, 2, 3, 4])?;
+    let lists = Seq::from_slice(alloc, &[LIST])?;
+    round_of(alloc, words, lists)
+}
+
+fn one_thread(alloc: Global, script: Seq<Call>) -> Result<Seq<Seq<Call>>, Memory> {
+    Ok(Seq::from_vec(vec![in alloc; script]?))
+}
+
+fn round_player(alloc: Global) -> Result<Player, Memory> {
+    Player::new(alloc, one_thread(alloc, round(alloc)?)?)
+}
+
+const THREAD: Turn = Turn::Thread(0);
+
+const ANSWERS: [(Turn, Given); 20] = [
+    (Turn::Queue, Given::Nothing),
+    (THREAD, Given::Done),
+    (THREAD, Given::Done),
+    (THREAD, Given::Done),
+    (THREAD, Given::Done),
+    (THREAD, Given::Done),
+    (THREAD, Given::Done),
+    (THREAD, Given::Value(0)),
+    (THREAD, Given::Done),
+    (THREAD, Given::Nothing),
+    (Turn::Queue, Given::Completed),
+    (THREAD, Given::Nothing),
+    (Turn::Queue, Given::Completed),
+    (Turn::Queue, Given::Nothing),
+    (THREAD, Given::Woken),
+    (THREAD, Given::OneToFour),
+    (THREAD, Given::Error(Hresult::InvalidArg)),
+    (THREAD, Given::Done),
+    (THREAD, Given::Value(0)),
+    (THREAD, Given::Nothing),
+];
+
+fn plays_round(rt: &impl Abort, alloc: Global) -> Result<(), Memory> {
+    let mut player = round_player(alloc)?;
+    let played = play(rt, &mut player, &ANSWERS);
+    drop(player);
+    played
 }
 
 #[test]
 fn a_round_is_answered_call_by_call(rt: HostRuntime) -> Result<(), Fail> {
-    let alloc = rt.alloc();
-    let mut scripts = Seq::new(alloc);
-    scripts.push(round(alloc)?)?;
-    let mut player = Player::new(alloc, scripts)?;
-    let thread = Turn::Thread(0);
-    let rows = [
-        (Turn::Queue, Given::Nothing),
-        (thread, Given::Done),
-        (thread, Given::Done),
-        (thread, Given::Done),
-        (thread, Given::Done),
-        (thread, Given::Done),
-        (thread, Given::Done),
-        (thread, Given::Value(0)),
-        (thread, Given::Done),
-        (thread, Given::Nothing),
-        (Turn::Queue, Given::Completed),
-        (thread, Given::Nothing),
-        (Turn::Queue, Given::Completed),
-        (Turn::Queue, Given::Nothing),
-        (thread, Given::Woken),
-        (thread, Given::OneToFour),
-        (thread, Given::Error(Hresult::InvalidArg)),
-        (thread, Given::Done),
-        (thread, Given::Value(0)),
-        (thread, Given::Nothing),
-    ];
-    play(&rt, &mut player, &rows)?;
+    plays_round(&rt, rt.alloc())?;
     Ok(())
 }
 
-/// Signals of the host with these values, in order.
-fn host_signals(alloc: Global, values: &[u64]) -> Result<Seq<Call>, Memory> {
-    let mut calls = Seq::new(alloc);
-    for value in values {
-        calls.push(Call::HostSignal {
-            fence: FENCE,
-            value: *value,
-        })?;
-    }
-    Ok(calls)
+fn waiting_calls(alloc: Global) -> Result<Seq<Call>, Memory> {
+    Ok(Seq::from_vec(vec![in alloc; host_wait(5), ASK]?))
+}
+
+fn signalling_calls(alloc: Global) -> Result<Seq<Call>, Memory> {
+    Ok(Seq::from_vec(vec![in alloc; host_signal(4), host_signal(7), host_signal(3)]?))
+}
+
+fn two_threads(
+    alloc: Global,
+    first: Seq<Call>,
+    second: Seq<Call>,
+) -> Result<Seq<Seq<Call>>, Memory> {
+    Ok(Seq::from_vec(vec![in alloc; first, second]?))
+}
+
+fn waiting_player(alloc: Global) -> Result<Player, Memory> {
+    let first = waiting_calls(alloc)?;
+    let second = signalling_calls(alloc)?;
+    Player::new(alloc, two_threads(alloc, first, second)?)
+}
+
+const HOST: Turn = Turn::Thread(1);
+
+const WAITS: [(Turn, Given); 10] = [
+    (THREAD, Given::Done),
+    (THREAD, Given::Nothing),
+    (HOST, Given::Done),
+    (THREAD, Given::Nothing),
+    (HOST, Given::Done),
+    (HOST, Given::Done),
+    (THREAD, Given::Woken),
+    (THREAD, Given::Value(3)),
+    (THREAD, Given::Nothing),
+    (HOST, Given::Nothing),
+];
+
+fn plays_waits(rt: &impl Abort, alloc: Global) -> Result<(), Memory> {
+    let mut player = waiting_player(alloc)?;
+    let played = play(rt, &mut player, &WAITS);
+    drop(player);
+    played
 }
 
 #[test]
 fn a_wait_that_was_met_stays_met_when_the_fence_falls(rt: HostRuntime) -> Result<(), Fail> {
-    let alloc = rt.alloc();
-    let mut waiter = Seq::new(alloc);
-    waiter.push(Call::HostWait {
-        fence: FENCE,
-        value: 5,
-    })?;
-    waiter.push(Call::Value { fence: FENCE })?;
-    let mut scripts = Seq::new(alloc);
-    scripts.push(waiter)?;
-    scripts.push(host_signals(alloc, &[4, 7, 3])?)?;
-    let mut player = Player::new(alloc, scripts)?;
-    let (waiter, host) = (Turn::Thread(0), Turn::Thread(1));
-    let rows = [
-        (waiter, Given::Done),
-        (waiter, Given::Nothing),
-        (host, Given::Done),
-        (waiter, Given::Nothing),
-        (host, Given::Done),
-        (host, Given::Done),
-        (waiter, Given::Woken),
-        (waiter, Given::Value(3)),
-        (waiter, Given::Nothing),
-        (host, Given::Nothing),
-    ];
-    play(&rt, &mut player, &rows)?;
+    plays_waits(&rt, rt.alloc())?;
     Ok(())
 }
