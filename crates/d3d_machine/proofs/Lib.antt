@@ -20,3 +20,4 @@ pub mod Machines
 pub mod Refusals
 pub mod Past
 pub mod PastPlaces
+pub mod PastCalls

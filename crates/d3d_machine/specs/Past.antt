@@ -1,8 +1,10 @@
 -- What a history leaves, as one value: a fold over its events.
-use Rattle.std.specs.Prelude.{ℕ, ◌≡◌, ◌-◌, ◌+◌, nat_lt, List, [], ◌∷◌, length, map, slice_index_or, Option, Some, None, Bool, true}
+use Rattle.std.specs.Prelude.{ℕ, ◌≡◌, ◌-◌, ◌+◌, nat_lt, List, [], ◌∷◌, length, map, take, slice_get, slice_index_or, Option, Some, None, Bool, true}
 use Rattle.std.specs.List.{list_all}
 use Rattle.std.specs.Option.{option_map}
 use Rattle.dx_base.specs.Effects.{At, at, changed_by}
+use Rattle.dx_base.specs.Each.{Each}
+use Rattle.dx_base.specs.declared.kinds.ListType.{ListType}
 use Rattle.d3d_machine.specs.declared.world.World.{World}
 use Rattle.d3d_machine.specs.declared.events.Operation.{Operation}
 use Rattle.d3d_machine.specs.declared.events.Event.{Event}
@@ -12,7 +14,8 @@ use Rattle.d3d_machine.specs.State.{Waiting, Place, Desk, State, first_state}
 use Rattle.d3d_machine.specs.Effects.{with_one, done, after}
 use Rattle.d3d_machine.specs.Play.{IsRunButWords, state_after}
 use Rattle.d3d_machine.specs.Fences.{event_sets, is_met}
-use Rattle.d3d_machine.specs.Operations.{event_gives}
+use Rattle.d3d_machine.specs.CallEffects.{here_of}
+use Rattle.d3d_machine.specs.Operations.{event_gives, operations, counter}
 
 -- a wait of a thread on a fence, with the place among the fence's updates of the one that was current at its call
 pub record WaitSince : Type 0 where
@@ -134,3 +137,17 @@ pub record IsRight (p : Past) : Type 0 where
 -- in a run of a valid world, also but for words, the past tells the machine's threads and fences
 abbrev pub PastsAreRight : Type 0
 PastsAreRight = (w : World) (h : List Event) → IsWorld w → IsRunButWords w h → IsRight (past w h) × ((past w h).state ≡ state_after w h)
+
+-- an operation of that queue, with the place of the event of a history that gave it to the queue
+pub record IsCalledAt (w : World) (h : List Event) (q : ℕ) (x : CalledAt) : Type 0 where
+  pub event : Event
+  pub there : slice_get h x.call ≡ Some event
+  pub gives : here_of q (event_gives w (state_after w (take x.call h)).desk event) ≡ x.operation ∷ []
+
+-- the past has the operations that a history called on each queue of the world, each with the place of its call, and how
+-- many of them the history completed
+pub record PastsHaveOperations : Type 0 where
+  pub operations : (w : World) (h : List Event) (q : ℕ) (t : ListType) → slice_get w.queues q ≡ Some t →
+      slice_get (map (λ os. map (λ x. x.operation) os) (past w h).operations) q ≡ Some (operations w h q)
+  pub calls : (w : World) (h : List Event) (q : ℕ) (os : List CalledAt) → slice_get (past w h).operations q ≡ Some os → Each (IsCalledAt w h q) os
+  pub completed : (w : World) (h : List Event) (q : ℕ) (t : ListType) → slice_get w.queues q ≡ Some t → slice_get (past w h).completed q ≡ Some (counter h q)

@@ -1,7 +1,7 @@
 //! Laws of the machine. The functions do nothing.
 
 ghost use Rattle.d3d_machine.specs.Laws.{StepsMay, RefusedCallsHaveNoEffect, RunsFollowScripts, WaitsAreMetSince};
-ghost use Rattle.d3d_machine.specs.Past.{PastsAreRight};
+ghost use Rattle.d3d_machine.specs.Past.{PastsAreRight, PastsHaveOperations};
 
 /// The events of the steps are the events that may come: what a thread's or a queue's step gives may come,
 /// and of each thread and each queue nothing else may.
@@ -37,4 +37,11 @@ pub fn waits_are_met_since()
 #[tactic(auto, using(crate::proofs::PastPlaces::pasts_are_right))]
 pub fn pasts_are_right()
     ensures { PastsAreRight }
+{}
+
+/// The past has the operations that a history called on each queue of the world, each with the place of its call in the
+/// history, and how many of them the history completed.
+#[tactic(auto, using(crate::proofs::PastCalls::pasts_have_operations))]
+pub fn pasts_have_operations()
+    ensures { PastsHaveOperations }
 {}
