@@ -1,6 +1,6 @@
 //! Names.
 
-ghost use Rattle.std.specs.Prelude.{◌≡◌, ◌&&◌, length, nat_le, Some, None, if◌then◌else◌, true, ◌≤◌};
+ghost use Rattle.std.specs.Prelude.{◌≡◌, codes, ◌&&◌, length, nat_le, Some, None, if◌then◌else◌, true, ◌≤◌};
 ghost use Rattle.std.specs.Option.{option_map};
 ghost use Rattle.std.specs.Str.{bytes_eq};
 ghost use Rattle.std.proofs.Common.{rules};
@@ -45,6 +45,26 @@ impl Name {
             bytes,
             len: word.len() as u8,
         })
+    }
+
+    /// The name `a`.
+    #[tactic(auto, unfolding(crate::specs::Words::is_name))]
+    pub fn a() -> Name
+        ensures { result ≡ codes "a" }
+    {
+        let mut bytes = [0; 32];
+        bytes[0] = b'a';
+        Name { bytes, len: 1 }
+    }
+
+    /// A copy of the name.
+    pub fn copied(&self) -> Name
+        ensures { result ≡ self.now }
+    {
+        Name {
+            bytes: self.bytes,
+            len: self.len,
+        }
     }
 
     /// The bytes of the name.

@@ -1,0 +1,118 @@
+-- A line of one form is of no form that is tried before.
+use Rattle.std.proofs.Common.{ℕ, zero, suc, ◌≡◌, ◌&&◌, ◌||◌, ◌==◌, not, Bool, true, false, List, [], ◌∷◌, ◌++◌, length, slice_get, Some, refl, rules, arith}
+use Rattle.std.specs.List.{list_all}
+use Rattle.std.specs.Str.{bytes_eq}
+use Rattle.std.proofs.lemmas.Bool.{and_parts}
+use Rattle.std.proofs.lemmas.Bool.Decides.{nat_tests}
+use Rattle.line_forms.specs.declared.part.PartValue.{PartValue}
+use Rattle.line_forms.specs.declared.part.Rest.{Rest}
+use Rattle.line_forms.specs.declared.part.Rest.TheVariants.{Nothing, Names, Words}
+use Rattle.line_forms.specs.Finding.{may_stand, may_end, fits, form_for}
+use Rattle.line_forms.specs.Laws.{AllGood, is_other, differ, is_nothing, apart, are_apart, all_apart}
+use Rattle.line_forms.specs.Parts.{Place, Word, Name, NewName, Number, DataWord, FlagWord, Set, Choice, AllOr, AllOrNumber, Row}
+use Rattle.line_forms.specs.Printing.{part_text, part_texts, rest_texts}
+use Rattle.line_forms.specs.Reading.{Naming}
+
+has_some : (k : ℕ) → (suc k == 0) ≡ false
+has_some k = grind (arith, nat_tests)
+
+both_false : (t : Bool) → (t && false) ≡ false
+both_false true = refl
+both_false false = refl
+
+module _ (n : Naming) where
+  other_word : (a : List ℕ) (q : Place) → is_other a q ≡ true → may_stand q a ≡ false
+  other_word a (Word b) e = flipped (bytes_eq a b) e
+    where
+      flipped : (t : Bool) → not t ≡ true → t ≡ false
+      flipped true e = cc
+      flipped false e = refl
+  other_word a (Name k) e = cc
+  other_word a NewName e = cc
+  other_word a Number e = cc
+  other_word a DataWord e = cc
+  other_word a FlagWord e = cc
+  other_word a (Set s) e = cc
+  other_word a (Choice c) e = cc
+  other_word a (AllOr k) e = cc
+  other_word a AllOrNumber e = cc
+
+  cannot_stand : (p q : Place) (v : PartValue) → differ p q ≡ true → may_stand q (part_text n p v) ≡ false
+  cannot_stand (Word a) q v e = other_word a q e
+  cannot_stand (Name k) q v e = cc
+  cannot_stand NewName q v e = cc
+  cannot_stand Number q v e = cc
+  cannot_stand DataWord q v e = cc
+  cannot_stand FlagWord q v e = cc
+  cannot_stand (Set s) q v e = cc
+  cannot_stand (Choice c) q v e = cc
+  cannot_stand (AllOr k) q v e = cc
+  cannot_stand AllOrNumber q v e = cc
+
+  pub cannot_fit : (ps : List Place) (vs : List PartValue) (r : Rest) (rs : List ℕ) (qs : List Place) (s : Rest) → AllGood n ps vs →
+      apart ps r qs s ≡ true → fits qs s (part_texts n ps vs ++ rest_texts n r rs) ≡ false
+  unfolding apart fits part_texts rest_texts
+  cannot_fit [] [] r rs [] s good e = cc
+  cannot_fit [] [] Nothing rs (q ∷ qs) s good e = refl
+  cannot_fit [] [] (Names k) rs (q ∷ qs) s good e = cc
+  cannot_fit [] [] Words rs (q ∷ qs) s good e = cc
+  cannot_fit [] (v ∷ vs) r rs qs s good e = absurd good
+  cannot_fit (p ∷ ps) [] r rs qs s good e = absurd good
+  cannot_fit (p ∷ ps) (v ∷ vs) r rs [] Nothing good e = has_some (length (part_texts n ps vs ++ rest_texts n r rs))
+  cannot_fit (p ∷ ps) (v ∷ vs) r rs [] (Names k) good e = cc
+  cannot_fit (p ∷ ps) (v ∷ vs) r rs [] Words good e = cc
+  cannot_fit (p ∷ ps) (v ∷ vs) r rs (q ∷ qs) s good e =
+      by_word (differ p q) refl (cannot_fit ps vs r rs qs s good.1) e
+    where
+      by_word : (t : Bool) → differ p q ≡ t → (apart ps r qs s ≡ true → fits qs s (part_texts n ps vs ++ rest_texts n r rs) ≡ false) →
+          (t || apart ps r qs s) ≡ true →
+          (may_stand q (part_text n p v) && fits qs s (part_texts n ps vs ++ rest_texts n r rs)) ≡ false
+      by_word true is behind e = rw (cannot_stand p q v is) refl
+      by_word false is behind e = rw (behind e) (both_false (may_stand q (part_text n p v)))
+
+  -- the word of a part may stand there
+  stands : (p : Place) (v : PartValue) → may_stand p (part_text n p v) ≡ true
+  stands (Word t) v = same t
+    where
+      same : (t : List ℕ) → bytes_eq t t ≡ true
+      same t = search rules
+  stands (Name k) v = refl
+  stands NewName v = refl
+  stands Number v = refl
+  stands DataWord v = refl
+  stands FlagWord v = refl
+  stands (Set s) v = refl
+  stands (Choice c) v = refl
+  stands (AllOr k) v = refl
+  stands AllOrNumber v = refl
+
+  ends : (r : Rest) (rs : List ℕ) → may_end r (rest_texts n r rs) ≡ true
+  unfolding rest_texts
+  ends Nothing rs = refl
+  ends (Names k) rs = refl
+  ends Words rs = refl
+
+  pub does_fit : (ps : List Place) (vs : List PartValue) (r : Rest) (rs : List ℕ) → AllGood n ps vs →
+      fits ps r (part_texts n ps vs ++ rest_texts n r rs) ≡ true
+  unfolding fits part_texts
+  does_fit [] [] r rs good = ends r rs
+  does_fit [] (v ∷ vs) r rs good = absurd good
+  does_fit (p ∷ ps) [] r rs good = absurd good
+  does_fit (p ∷ ps) (v ∷ vs) r rs good = rw (stands p v, does_fit ps vs r rs good.1) refl
+
+  passes : {F : Type 0} (P : F → Bool) (fs : List F) (k : ℕ) (f : F) → list_all P fs ≡ true → slice_get fs k ≡ Some f → P f ≡ true
+  passes P [] k f all e = cc
+  passes P (g ∷ fs) zero f all e = let is : g ≡ f = cc in rw (← is) (and_parts (P g) (list_all P fs) all).0
+  passes P (g ∷ fs) (suc k) f all e = passes P fs k f (and_parts (P g) (list_all P fs) all).1 e
+
+  -- the form of a line is found
+  pub found_in : {F : Type 0} (row : F → Row) (fs : List F) (k : ℕ) (f : F) (vs : List PartValue) (rs : List ℕ) → all_apart row fs ≡ true →
+      slice_get fs k ≡ Some f → AllGood n (row f).parts vs → form_for row fs (part_texts n (row f).parts vs ++ rest_texts n (row f).rest rs) ≡ Some f
+  unfolding form_for all_apart
+  found_in row [] k f vs rs all e good = cc
+  found_in row (g ∷ fs) zero f vs rs all e good =
+      let is : g ≡ f = cc in rw (is, does_fit (row f).parts vs (row f).rest rs good) refl
+  found_in row (g ∷ fs) (suc k) f vs rs all e good =
+      let both = and_parts (list_all (λ h. are_apart (row h) (row g)) fs) (all_apart row fs) all in
+      let first : are_apart (row f) (row g) ≡ true = passes (λ h. are_apart (row h) (row g)) fs k f both.0 e in
+      rw (cannot_fit (row f).parts vs (row f).rest rs (row g).parts (row g).rest good first) (found_in row fs k f vs rs both.1 e good)

@@ -1,0 +1,11 @@
+pub mod Causes
+pub mod Choices
+pub mod Lines
+pub mod Sets
+pub mod Parts
+pub mod Values
+pub mod Reading
+pub mod Finding
+pub mod Printing
+pub mod Says
+pub mod Laws

@@ -1,0 +1,26 @@
+//! The names of things.
+
+ghost use Rattle.std.specs.Prelude.{◌≡◌};
+
+use crate::cause::Cause;
+use crate::kind::Kind;
+use trace_words::Name;
+
+/// What names name, and the names of things.
+pub trait Naming {
+    ghost use Rattle.line_forms.specs.Reading.{Naming};
+
+    ghost names: { Self → Naming };
+
+    /// The number of the thing of that kind that a word names.
+    fn number(&self, kind: Kind, word: &[u8]) -> Result<u32, Cause>
+        ensures { result ≡ (names self.now).number kind word.now };
+
+    /// The name of a thing.
+    fn name(&self, kind: Kind, number: u32) -> &[u8]
+        ensures { result.now ≡ (names self.now).name kind number };
+
+    /// The name that a word declares.
+    fn fresh(&self, word: &[u8]) -> Result<Name, Cause>
+        ensures { result ≡ (names self.now).fresh word.now };
+}
