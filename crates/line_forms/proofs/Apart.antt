@@ -10,7 +10,7 @@ use Rattle.line_forms.specs.declared.part.Rest.TheVariants.{Nothing, Names, Word
 use Rattle.line_forms.specs.Finding.{may_stand, may_end, fits, form_for}
 use Rattle.line_forms.specs.Laws.{AllGood, is_other, differ, is_nothing, apart, are_apart, all_apart}
 use Rattle.line_forms.specs.Parts.{Place, Word, Name, NewName, Number, DataWord, FlagWord, Set, Choice, AllOr, AllOrNumber, Row}
-use Rattle.line_forms.specs.Printing.{part_text, part_texts, rest_texts}
+use Rattle.line_forms.specs.Printing.{Known, part_text, part_texts, rest_texts}
 use Rattle.line_forms.specs.Reading.{Naming}
 
 has_some : (k : ℕ) → (suc k == 0) ≡ false
@@ -20,7 +20,7 @@ both_false : (t : Bool) → (t && false) ≡ false
 both_false true = refl
 both_false false = refl
 
-module _ (n : Naming) where
+module _ (n : Naming) (known : Known) where
   other_word : (a : List ℕ) (q : Place) → is_other a q ≡ true → may_stand q a ≡ false
   other_word a (Word b) e = flipped (bytes_eq a b) e
     where
@@ -37,7 +37,7 @@ module _ (n : Naming) where
   other_word a (AllOr k) e = cc
   other_word a AllOrNumber e = cc
 
-  cannot_stand : (p q : Place) (v : PartValue) → differ p q ≡ true → may_stand q (part_text n p v) ≡ false
+  cannot_stand : (p q : Place) (v : PartValue) → differ p q ≡ true → may_stand q (part_text known p v) ≡ false
   cannot_stand (Word a) q v e = other_word a q e
   cannot_stand (Name k) q v e = cc
   cannot_stand NewName q v e = cc
@@ -49,8 +49,8 @@ module _ (n : Naming) where
   cannot_stand (AllOr k) q v e = cc
   cannot_stand AllOrNumber q v e = cc
 
-  pub cannot_fit : (ps : List Place) (vs : List PartValue) (r : Rest) (rs : List ℕ) (qs : List Place) (s : Rest) → AllGood n ps vs →
-      apart ps r qs s ≡ true → fits qs s (part_texts n ps vs ++ rest_texts n r rs) ≡ false
+  pub cannot_fit : (ps : List Place) (vs : List PartValue) (r : Rest) (rs : List ℕ) (qs : List Place) (s : Rest) → AllGood n known ps vs →
+      apart ps r qs s ≡ true → fits qs s (part_texts known ps vs ++ rest_texts known r rs) ≡ false
   unfolding apart fits part_texts rest_texts
   cannot_fit [] [] r rs [] s good e = cc
   cannot_fit [] [] Nothing rs (q ∷ qs) s good e = refl
@@ -58,20 +58,20 @@ module _ (n : Naming) where
   cannot_fit [] [] Words rs (q ∷ qs) s good e = cc
   cannot_fit [] (v ∷ vs) r rs qs s good e = absurd good
   cannot_fit (p ∷ ps) [] r rs qs s good e = absurd good
-  cannot_fit (p ∷ ps) (v ∷ vs) r rs [] Nothing good e = has_some (length (part_texts n ps vs ++ rest_texts n r rs))
+  cannot_fit (p ∷ ps) (v ∷ vs) r rs [] Nothing good e = has_some (length (part_texts known ps vs ++ rest_texts known r rs))
   cannot_fit (p ∷ ps) (v ∷ vs) r rs [] (Names k) good e = cc
   cannot_fit (p ∷ ps) (v ∷ vs) r rs [] Words good e = cc
   cannot_fit (p ∷ ps) (v ∷ vs) r rs (q ∷ qs) s good e =
       by_word (differ p q) refl (cannot_fit ps vs r rs qs s good.1) e
     where
-      by_word : (t : Bool) → differ p q ≡ t → (apart ps r qs s ≡ true → fits qs s (part_texts n ps vs ++ rest_texts n r rs) ≡ false) →
+      by_word : (t : Bool) → differ p q ≡ t → (apart ps r qs s ≡ true → fits qs s (part_texts known ps vs ++ rest_texts known r rs) ≡ false) →
           (t || apart ps r qs s) ≡ true →
-          (may_stand q (part_text n p v) && fits qs s (part_texts n ps vs ++ rest_texts n r rs)) ≡ false
+          (may_stand q (part_text known p v) && fits qs s (part_texts known ps vs ++ rest_texts known r rs)) ≡ false
       by_word true is behind e = rw (cannot_stand p q v is) refl
-      by_word false is behind e = rw (behind e) (both_false (may_stand q (part_text n p v)))
+      by_word false is behind e = rw (behind e) (both_false (may_stand q (part_text known p v)))
 
   -- the word of a part may stand there
-  stands : (p : Place) (v : PartValue) → may_stand p (part_text n p v) ≡ true
+  stands : (p : Place) (v : PartValue) → may_stand p (part_text known p v) ≡ true
   stands (Word t) v = same t
     where
       same : (t : List ℕ) → bytes_eq t t ≡ true
@@ -86,14 +86,14 @@ module _ (n : Naming) where
   stands (AllOr k) v = refl
   stands AllOrNumber v = refl
 
-  ends : (r : Rest) (rs : List ℕ) → may_end r (rest_texts n r rs) ≡ true
+  ends : (r : Rest) (rs : List ℕ) → may_end r (rest_texts known r rs) ≡ true
   unfolding rest_texts
   ends Nothing rs = refl
   ends (Names k) rs = refl
   ends Words rs = refl
 
-  pub does_fit : (ps : List Place) (vs : List PartValue) (r : Rest) (rs : List ℕ) → AllGood n ps vs →
-      fits ps r (part_texts n ps vs ++ rest_texts n r rs) ≡ true
+  pub does_fit : (ps : List Place) (vs : List PartValue) (r : Rest) (rs : List ℕ) → AllGood n known ps vs →
+      fits ps r (part_texts known ps vs ++ rest_texts known r rs) ≡ true
   unfolding fits part_texts
   does_fit [] [] r rs good = ends r rs
   does_fit [] (v ∷ vs) r rs good = absurd good
@@ -107,7 +107,7 @@ module _ (n : Naming) where
 
   -- the form of a line is found
   pub found_in : {F : Type 0} (row : F → Row) (fs : List F) (k : ℕ) (f : F) (vs : List PartValue) (rs : List ℕ) → all_apart row fs ≡ true →
-      slice_get fs k ≡ Some f → AllGood n (row f).parts vs → form_for row fs (part_texts n (row f).parts vs ++ rest_texts n (row f).rest rs) ≡ Some f
+      slice_get fs k ≡ Some f → AllGood n known (row f).parts vs → form_for row fs (part_texts known (row f).parts vs ++ rest_texts known (row f).rest rs) ≡ Some f
   unfolding form_for all_apart
   found_in row [] k f vs rs all e good = cc
   found_in row (g ∷ fs) zero f vs rs all e good =

@@ -15,7 +15,7 @@ use Rattle.line_forms.specs.Choices.{choices_of, chosen}
 use Rattle.line_forms.specs.Laws.{shaped, shaped_from, shaped_rest, shaped_line, IsGood, AllGood, IsGoodLine, AreNamed, ReadsAgain, PrintsBack}
 use Rattle.line_forms.specs.Lines.{hex_word, flag_word}
 use Rattle.line_forms.specs.Parts.{Place, Word, Name, NewName, Number, DataWord, FlagWord, Set, Choice, AllOr, AllOrNumber, Row}
-use Rattle.line_forms.specs.Printing.{part_text, part_texts, rest_texts, line_words, all_or_text}
+use Rattle.line_forms.specs.Printing.{Known, part_text, part_texts, rest_texts, line_words, all_or_text}
 use Rattle.line_forms.specs.Reading.{Naming, or_form, all_text, number_of, word_of, stands_for, all_or_of, read_part, read_parts, each_of, read_rest, read_row}
 use Rattle.line_forms.specs.Sets.{rows_of, set_from}
 use Rattle.line_forms.specs.Values.{value_at}
@@ -130,77 +130,77 @@ all_reads : {A : Type 0} (make : Option A → PartValue) (one : List ℕ → Res
 unfolding all_or_of
 all_reads make one = refl
 
-module _ (n : Naming) (named : AreNamed n) where
-  all_or_good : (k : Kind) (w : List ℕ) (v : PartValue) → all_or_of value.AllOr (n.number k) w ≡ Ok v → IsGood n (AllOr k) v
+module _ (n : Naming) (known : Known) (named : AreNamed n known) where
+  all_or_good : (k : Kind) (w : List ℕ) (v : PartValue) → all_or_of value.AllOr (n.number k) w ≡ Ok v → IsGood n known (AllOr k) v
   unfolding all_or_of
   all_or_good k w v e = by_test (bytes_eq w all_text) refl e
     where
-      one : (i : ℕ) → bytes_eq w all_text ≡ false → n.number k w ≡ Ok i → IsGood n (AllOr k) (value.AllOr (Some i))
-      one i is h = record { kind = refl; reads = all_or_reads value.AllOr (n.number k) (n.name k) i (rw (named.things k w i h) is) (rw (named.things k w i h) h) }
+      one : (i : ℕ) → bytes_eq w all_text ≡ false → n.number k w ≡ Ok i → IsGood n known (AllOr k) (value.AllOr (Some i))
+      one i is h = record { kind = refl; reads = all_or_reads value.AllOr (n.number k) (known k) i (rw (named.things k w i h) is) (rw (named.things k w i h) h) }
 
       by_test : (b : Bool) → bytes_eq w all_text ≡ b →
-          (if b then Ok (value.AllOr None) else wrapped (λ i. value.AllOr (Some i)) (n.number k w)) ≡ Ok v → IsGood n (AllOr k) v
+          (if b then Ok (value.AllOr None) else wrapped (λ i. value.AllOr (Some i)) (n.number k w)) ≡ Ok v → IsGood n known (AllOr k) v
       by_test true is e =
           let same : value.AllOr None ≡ v = cc in
-          subst (λ x. IsGood n (AllOr k) x) same (record { kind = refl; reads = all_reads value.AllOr (n.number k) })
+          subst (λ x. IsGood n known (AllOr k) x) same (record { kind = refl; reads = all_reads value.AllOr (n.number k) })
       by_test false is e =
           let m = made_of (λ i. value.AllOr (Some i)) (n.number k w) v e in
-          subst (λ x. IsGood n (AllOr k) x) m.makes (one m.from is m.read)
+          subst (λ x. IsGood n known (AllOr k) x) m.makes (one m.from is m.read)
 
-  all_or_number_good : (w : List ℕ) (v : PartValue) → all_or_of value.AllOrNumber number_of w ≡ Ok v → IsGood n AllOrNumber v
+  all_or_number_good : (w : List ℕ) (v : PartValue) → all_or_of value.AllOrNumber number_of w ≡ Ok v → IsGood n known AllOrNumber v
   unfolding all_or_of
   all_or_number_good w v e = by_test (bytes_eq w all_text) refl e
     where
-      one : (i : ℕ) → bytes_eq w all_text ≡ false → number_of w ≡ Ok i → IsGood n AllOrNumber (value.AllOrNumber (Some i))
+      one : (i : ℕ) → bytes_eq w all_text ≡ false → number_of w ≡ Ok i → IsGood n known AllOrNumber (value.AllOrNumber (Some i))
       one i is h =
           let says = number_says w i h in
           let other : bytes_eq (decimal i) all_text ≡ false = subst (λ u. bytes_eq u all_text ≡ false) says.1 is in
           record { kind = refl; reads = all_or_reads value.AllOrNumber number_of decimal i other (number_back i says.0) }
 
       by_test : (b : Bool) → bytes_eq w all_text ≡ b →
-          (if b then Ok (value.AllOrNumber None) else wrapped (λ i. value.AllOrNumber (Some i)) (number_of w)) ≡ Ok v → IsGood n AllOrNumber v
+          (if b then Ok (value.AllOrNumber None) else wrapped (λ i. value.AllOrNumber (Some i)) (number_of w)) ≡ Ok v → IsGood n known AllOrNumber v
       by_test true is e =
           let same : value.AllOrNumber None ≡ v = cc in
-          subst (λ x. IsGood n AllOrNumber x) same (record { kind = refl; reads = all_reads value.AllOrNumber number_of })
+          subst (λ x. IsGood n known AllOrNumber x) same (record { kind = refl; reads = all_reads value.AllOrNumber number_of })
       by_test false is e =
           let m = made_of (λ i. value.AllOrNumber (Some i)) (number_of w) v e in
-          subst (λ x. IsGood n AllOrNumber x) m.makes (one m.from is m.read)
+          subst (λ x. IsGood n known AllOrNumber x) m.makes (one m.from is m.read)
 
   -- a part that is read is good
-  part_good : (p : Place) (w : List ℕ) (v : PartValue) → read_part n p w ≡ Ok v → IsGood n p v
+  part_good : (p : Place) (w : List ℕ) (v : PartValue) → read_part n p w ≡ Ok v → IsGood n known p v
   unfolding stands_for
   part_good (Word t) w v e =
-      subst (λ x. IsGood n (Word t) x) (stands_shaped t w v e) (record { kind = refl; reads = rw (same_word t) refl })
+      subst (λ x. IsGood n known (Word t) x) (stands_shaped t w v e) (record { kind = refl; reads = rw (same_word t) refl })
   part_good (Name k) w v e =
       let m = made_of value.Id (n.number k w) v e in
-      let again : n.number k (n.name k m.from) ≡ Ok m.from = rw (named.things k w m.from m.read) m.read in
-      subst (λ x. IsGood n (Name k) x) m.makes (record { kind = refl; reads = ap (wrapped value.Id) again })
+      let again : n.number k (known k m.from) ≡ Ok m.from = rw (named.things k w m.from m.read) m.read in
+      subst (λ x. IsGood n known (Name k) x) m.makes (record { kind = refl; reads = ap (wrapped value.Id) again })
   part_good NewName w v e =
       let m = made_of value.NewName (n.fresh w) v e in
       let again : n.fresh m.from ≡ Ok m.from = subst (λ u. n.fresh u ≡ Ok m.from) (sym (named.new w m.from m.read)) m.read in
-      subst (λ x. IsGood n NewName x) m.makes (record { kind = refl; reads = ap (wrapped value.NewName) again })
+      subst (λ x. IsGood n known NewName x) m.makes (record { kind = refl; reads = ap (wrapped value.NewName) again })
   part_good Number w v e =
       let m = made_of value.Number (number_of w) v e in
-      subst (λ x. IsGood n Number x) m.makes
+      subst (λ x. IsGood n known Number x) m.makes
       (record { kind = refl; reads = ap (wrapped value.Number) (number_back m.from (number_says w m.from m.read).0) })
   part_good DataWord w v e =
       let m = made_of value.Word (word_of w) v e in
-      subst (λ x. IsGood n DataWord x) m.makes (record { kind = refl; reads = ap (wrapped value.Word) (word_back m.from (word_small w m.from m.read)) })
+      subst (λ x. IsGood n known DataWord x) m.makes (record { kind = refl; reads = ap (wrapped value.Word) (word_back m.from (word_small w m.from m.read)) })
   part_good FlagWord w v e =
       let m = made_of value.Word (word_of w) v e in
-      subst (λ x. IsGood n FlagWord x) m.makes (record { kind = refl; reads = ap (wrapped value.Word) (flag_back m.from (word_small w m.from m.read)) })
+      subst (λ x. IsGood n known FlagWord x) m.makes (record { kind = refl; reads = ap (wrapped value.Word) (flag_back m.from (word_small w m.from m.read)) })
   part_good (Set s) w v e =
       let m = made_of value.Set (set_from (rows_of s) w) v e in
-      subst (λ x. IsGood n (Set s) x) m.makes (record { kind = refl; reads = ap (wrapped value.Set) (set_again s w m.from m.read) })
+      subst (λ x. IsGood n known (Set s) x) m.makes (record { kind = refl; reads = ap (wrapped value.Set) (set_again s w m.from m.read) })
   part_good (Choice c) w v e =
       let m = made_of value.Chosen (or_form (chosen (choices_of c) w)) v e in
       let own = chosen_own c w m.from (or_form_ok (chosen (choices_of c) w) m.from m.read) in
-      subst (λ x. IsGood n (Choice c) x) m.makes
+      subst (λ x. IsGood n known (Choice c) x) m.makes
       (record { kind = ap value.Chosen own.kind; reads = ap (λ o. wrapped value.Chosen (or_form o)) own.reads })
   part_good (AllOr k) w v e = all_or_good k w v e
   part_good AllOrNumber w v e = all_or_number_good w v e
 
-  parts_good : (ps : List Place) (ws : List (List ℕ)) (vs : List PartValue) → read_parts n ps ws ≡ Ok vs → AllGood n ps vs
+  parts_good : (ps : List Place) (ws : List (List ℕ)) (vs : List PartValue) → read_parts n ps ws ≡ Ok vs → AllGood n known ps vs
   unfolding read_parts
   parts_good [] ws [] e = tt
   parts_good [] ws (v ∷ vs) e = cc
@@ -210,7 +210,7 @@ module _ (n : Naming) (named : AreNamed n) where
   parts_good (p ∷ ps) (w ∷ ws) vs e =
       let m = made_of (λ (v : PartValue × List PartValue). v.0 ∷ v.1) (two_of (read_part n p w) (read_parts n ps ws)) vs e in
       let both = two_read (read_part n p w) (read_parts n ps ws) m.from m.read in
-      subst (λ x. AllGood n (p ∷ ps) x) m.makes (part_good p w m.from.0 both.0, parts_good ps ws m.from.1 both.1)
+      subst (λ x. AllGood n known (p ∷ ps) x) m.makes (part_good p w m.from.0 both.0, parts_good ps ws m.from.1 both.1)
 
   -- words that are read one by one are read again
   each_again : (f : List ℕ → Result ℕ Cause) (text : ℕ → List ℕ) → ((w : List ℕ) (x : ℕ) → f w ≡ Ok x → f (text x) ≡ Ok x) →
@@ -235,55 +235,55 @@ module _ (n : Naming) (named : AreNamed n) where
       rw (long, is) all.0
 
   -- the words up to the end are read again
-  rest_again : (r : Rest) (ws : List (List ℕ)) (xs : List ℕ) → read_rest n r ws ≡ Ok xs → read_rest n r (rest_texts n r xs) ≡ Ok xs
+  rest_again : (r : Rest) (ws : List (List ℕ)) (xs : List ℕ) → read_rest n r ws ≡ Ok xs → read_rest n r (rest_texts known r xs) ≡ Ok xs
   unfolding read_rest rest_texts
   rest_again Nothing ws xs e = by_test (length ws == 0) e
     where
       by_test : (t : Bool) → ends_if t ≡ Ok xs → ends_if true ≡ Ok xs
       by_test true e = e
       by_test false e = cc
-  rest_again (Names k) ws xs e = (each_again (n.number k) (n.name k) (λ w x h. rw (named.things k w x h) h) ws xs e).0
+  rest_again (Names k) ws xs e = (each_again (n.number k) (known k) (λ w x h. rw (named.things k w x h) h) ws xs e).0
   rest_again Words ws xs e = counted ws xs (nat_le 1 (length ws) && nat_le (length ws) 256) refl e
 
   -- a line that is read is good
-  line_good : (row : Row) (ws : List (List ℕ)) (line : Line) → read_row n row ws ≡ Ok line → IsGoodLine n row line
+  line_good : (row : Row) (ws : List (List ℕ)) (line : Line) → read_row n row ws ≡ Ok line → IsGoodLine n known row line
   unfolding read_row
   line_good row ws line e =
       let m = made_of (λ (v : List PartValue × List ℕ). record { values = v.0; rest = v.1 })
       (two_of (read_parts n row.parts ws) (read_rest n row.rest (drop (length row.parts) ws))) line e in
       let both = two_read (read_parts n row.parts ws) (read_rest n row.rest (drop (length row.parts) ws)) m.from m.read in
-      subst (IsGoodLine n row) m.makes
+      subst (IsGoodLine n known row) m.makes
       (record { values = parts_good row.parts ws m.from.0 both.0; rest = rest_again row.rest (drop (length row.parts) ws) m.from.1 both.1 })
 
 pub reads_again : ReadsAgain
 reads_again = record { good = line_good; shaped = line_shaped }
 
-parts_back : (n : Naming) (ps : List Place) (vs : List PartValue) (more : List (List ℕ)) → AllGood n ps vs →
-    read_parts n ps (part_texts n ps vs ++ more) ≡ Ok vs
+parts_back : (n : Naming) (known : Known) (ps : List Place) (vs : List PartValue) (more : List (List ℕ)) → AllGood n known ps vs →
+    read_parts n ps (part_texts known ps vs ++ more) ≡ Ok vs
 unfolding read_parts part_texts two_of
-parts_back n [] [] more good = refl
-parts_back n [] (v ∷ vs) more good = absurd good
-parts_back n (p ∷ ps) [] more good = absurd good
-parts_back n (p ∷ ps) (v ∷ vs) more good = rw (good.0.reads, parts_back n ps vs more good.1) refl
+parts_back n known [] [] more good = refl
+parts_back n known [] (v ∷ vs) more good = absurd good
+parts_back n known (p ∷ ps) [] more good = absurd good
+parts_back n known (p ∷ ps) (v ∷ vs) more good = rw (good.0.reads, parts_back n known ps vs more good.1) refl
 
-behind : (n : Naming) (ps : List Place) (vs : List PartValue) (more : List (List ℕ)) → AllGood n ps vs →
-    drop (length ps) (part_texts n ps vs ++ more) ≡ more
+behind : (n : Naming) (known : Known) (ps : List Place) (vs : List PartValue) (more : List (List ℕ)) → AllGood n known ps vs →
+    drop (length ps) (part_texts known ps vs ++ more) ≡ more
 unfolding part_texts
-behind n [] [] more good = refl
-behind n [] (v ∷ vs) more good = absurd good
-behind n (p ∷ ps) [] more good = absurd good
-behind n (p ∷ ps) (v ∷ vs) more good = behind n ps vs more good.1
+behind n known [] [] more good = refl
+behind n known [] (v ∷ vs) more good = absurd good
+behind n known (p ∷ ps) [] more good = absurd good
+behind n known (p ∷ ps) (v ∷ vs) more good = behind n known ps vs more good.1
 
 -- a good line is read of its own words
-line_back : (n : Naming) (row : Row) (line : Line) → IsGoodLine n row line → read_row n row (line_words n row line) ≡ Ok line
+line_back : (n : Naming) (known : Known) (row : Row) (line : Line) → IsGoodLine n known row line → read_row n row (line_words known row line) ≡ Ok line
 unfolding read_row two_of line_words
-line_back n row line good =
+line_back n known row line good =
     rw (
-      parts_back n row.parts line.values (rest_texts n row.rest line.rest) good.values,
-      behind n row.parts line.values (rest_texts n row.rest line.rest) good.values,
+      parts_back n known row.parts line.values (rest_texts known row.rest line.rest) good.values,
+      behind n known row.parts line.values (rest_texts known row.rest line.rest) good.values,
       good.rest,
     ) refl
 
 pub prints_back : PrintsBack
 unfolding line_words
-prints_back = record { reads = line_back; finds = λ n rows k row line all e good. found_in n (λ r. r) rows k row line.values line.rest all e good.values }
+prints_back = record { reads = line_back; finds = λ n known rows k row line all e good. found_in n known (λ r. r) rows k row line.values line.rest all e good.values }

@@ -12,7 +12,7 @@ use Rattle.line_forms.specs.declared.part.Rest.TheVariants.{Nothing, Names, Word
 use Rattle.line_forms.specs.Choices.{as_choice}
 use Rattle.line_forms.specs.Finding.{form_for}
 use Rattle.line_forms.specs.Parts.{Place, Word, Name, NewName, Number, DataWord, FlagWord, Set, Choice, AllOr, AllOrNumber, Row}
-use Rattle.line_forms.specs.Printing.{part_text, rest_texts, line_words}
+use Rattle.line_forms.specs.Printing.{Known, part_text, rest_texts, line_words}
 use Rattle.line_forms.specs.Reading.{Naming, read_part, read_rest, read_row}
 use Rattle.line_forms.specs.Says.{SaysLine, IsFirstCause}
 use Rattle.line_forms.specs.Values.{id_in, name_in, number_in, word_in, set_in, choice_in, all_or_in, all_or_number_in, value_at}
@@ -52,29 +52,29 @@ pub record IsGrammar : Type 0 where
   pub told : (n : Naming) (row : Row) (ws : List (List ℕ)) (c : Cause) → IsFirstCause n row ws c → read_row n row ws ≡ Err c
 
 -- a value is read of its own word
-pub record IsGood (n : Naming) (p : Place) (v : PartValue) : Type 0 where
+pub record IsGood (n : Naming) (known : Known) (p : Place) (v : PartValue) : Type 0 where
   pub kind : shaped p v ≡ v
-  pub reads : read_part n p (part_text n p v) ≡ Ok v
+  pub reads : read_part n p (part_text known p v) ≡ Ok v
 
-abbrev pub AllGood : Naming → List Place → List PartValue → Type 0
-AllGood n [] [] = Unit {0}
-AllGood n [] (v ∷ vs) = ⊥
-AllGood n (p ∷ ps) [] = ⊥
-AllGood n (p ∷ ps) (v ∷ vs) = IsGood n p v × AllGood n ps vs
+abbrev pub AllGood : Naming → Known → List Place → List PartValue → Type 0
+AllGood n known [] [] = Unit {0}
+AllGood n known [] (v ∷ vs) = ⊥
+AllGood n known (p ∷ ps) [] = ⊥
+AllGood n known (p ∷ ps) (v ∷ vs) = IsGood n known p v × AllGood n known ps vs
 
 -- a line all of whose values are read of their own words
-pub record IsGoodLine (n : Naming) (row : Row) (line : Line) : Type 0 where
-  pub values : AllGood n row.parts line.values
-  pub rest : read_rest n row.rest (rest_texts n row.rest line.rest) ≡ Ok line.rest
+pub record IsGoodLine (n : Naming) (known : Known) (row : Row) (line : Line) : Type 0 where
+  pub values : AllGood n known row.parts line.values
+  pub rest : read_rest n row.rest (rest_texts known row.rest line.rest) ≡ Ok line.rest
 
 -- the name of a thing is the word that names it, and a name that is declared is its own word
-pub record AreNamed (n : Naming) : Type 0 where
-  pub things : (k : Kind) (w : List ℕ) (i : ℕ) → n.number k w ≡ Ok i → n.name k i ≡ w
+pub record AreNamed (n : Naming) (known : Known) : Type 0 where
+  pub things : (k : Kind) (w : List ℕ) (i : ℕ) → n.number k w ≡ Ok i → known k i ≡ w
   pub new : (w m : List ℕ) → n.fresh w ≡ Ok m → m ≡ w
 
 -- what is read prints to words that are read as the same
 pub record ReadsAgain : Type 0 where
-  pub good : (n : Naming) → AreNamed n → (row : Row) (ws : List (List ℕ)) (line : Line) → read_row n row ws ≡ Ok line → IsGoodLine n row line
+  pub good : (n : Naming) (known : Known) → AreNamed n known → (row : Row) (ws : List (List ℕ)) (line : Line) → read_row n row ws ≡ Ok line → IsGoodLine n known row line
   pub shaped : (n : Naming) (row : Row) (ws : List (List ℕ)) (line : Line) → read_row n row ws ≡ Ok line → shaped_line row line ≡ line
 
 -- two parts are other words
@@ -124,6 +124,6 @@ all_apart row (f ∷ fs) = list_all (λ g. are_apart (row g) (row f)) fs && all_
 
 -- what is printed of a good line is read as the line, also where its form is looked for among others that are apart
 pub record PrintsBack : Type 0 where
-  pub reads : (n : Naming) (row : Row) (line : Line) → IsGoodLine n row line → read_row n row (line_words n row line) ≡ Ok line
-  pub finds : (n : Naming) (rows : List Row) (k : ℕ) (row : Row) (line : Line) → all_apart (λ r. r) rows ≡ true →
-      slice_get rows k ≡ Some row → IsGoodLine n row line → form_for (λ r. r) rows (line_words n row line) ≡ Some row
+  pub reads : (n : Naming) (known : Known) (row : Row) (line : Line) → IsGoodLine n known row line → read_row n row (line_words known row line) ≡ Ok line
+  pub finds : (n : Naming) (known : Known) (rows : List Row) (k : ℕ) (row : Row) (line : Line) → all_apart (λ r. r) rows ≡ true →
+      slice_get rows k ≡ Some row → IsGoodLine n known row line → form_for (λ r. r) rows (line_words known row line) ≡ Some row

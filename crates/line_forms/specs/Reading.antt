@@ -16,10 +16,9 @@ use Rattle.line_forms.specs.Choices.{choices_of, chosen}
 use Rattle.line_forms.specs.Parts.{Place, Word, Name, NewName, Number, DataWord, FlagWord, Set, Choice, AllOr, AllOrNumber, Row}
 use Rattle.line_forms.specs.Sets.{rows_of, set_from}
 
--- the names of things: the thing that a word names, the name of a thing, and the name that a word declares
+-- what words name: the thing that a word names, and the name that a word declares
 pub record Naming : Type 0 where
   pub number : Kind → List ℕ → Result ℕ Cause
-  pub name : Kind → ℕ → List ℕ
   pub fresh : List ℕ → Result (List ℕ) Cause
 
 -- what stands where it is there, and a word of no form else

@@ -9,7 +9,7 @@ use dx_base::Seq;
 use trace_words::is_word;
 
 /// A form of lines, which has a row of parts.
-pub trait Form: Copy {
+pub trait LineForm: Copy {
     ghost use Rattle.std.specs.Prelude.{map};
     ghost use Rattle.line_forms.specs.Parts.{Row, place_of};
 
@@ -79,7 +79,7 @@ fn fits(parts: &[Part], rest: Rest, words: &[&[u8]]) -> bool
 
 /// The first of some forms that the words of a line fit. Each other form costs the comparison of its first word.
 #[tactic(auto, unfolding(crate::specs::Finding::form_for))]
-pub fn form_for<F: Form>(forms: &[F], words: &[&[u8]]) -> Option<F>
+pub fn form_for<F: LineForm>(forms: &[F], words: &[&[u8]]) -> Option<F>
     ensures { result ≡ form_for F.shape forms.now (map (λ w. w.now) words.now) }
 {
     for form in forms {

@@ -18,12 +18,12 @@ mod words;
 pub use append::{end_line, end_with_words, put, put_hex, put_next, put_number};
 pub use cause::Cause;
 pub use choice::{Choice, Choices, Version};
-pub use form::{Form, Line, form_for};
+pub use form::{Line, LineForm, form_for};
 pub use kind::Kind;
 pub use laws::{
     what_is_printed_is_read, what_is_read_is_read_again, what_is_read_is_what_the_words_say,
 };
-pub use naming::Naming;
+pub use naming::{Known, Naming};
 pub use part::{Part, PartValue, Rest};
 pub use printing::put_line;
 pub use reading::{read_line, two};

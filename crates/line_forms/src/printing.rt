@@ -6,21 +6,21 @@ ghost use Rattle.line_forms.specs.Parts.{place_of};
 ghost use Rattle.line_forms.specs.Printing.{part_text, part_texts, rest_texts, spaced, joined, text_of};
 
 use crate::append::{end_line, end_with_words, put, put_data_word, put_decimal, put_flag_word, put_next};
-use crate::form::Form;
+use crate::form::LineForm;
 use crate::kind::Kind;
-use crate::naming::Naming;
+use crate::naming::Known;
 use crate::part::{Part, PartValue, Rest};
 use crate::words::all_word;
 use dx_base::Memory;
 
 /// Appends the word of what a part means.
-fn put_part<N: Naming>(
+fn put_part<N: Known>(
     out: &mut Vec<u8>,
     names: &N,
     part: Part,
     value: &PartValue,
 ) -> Result<(), Memory>
-    ensures { OnOk result (out.new.items ≡ out.old.items ++ part_text (N.names names.now) (place_of part) value.now) }
+    ensures { OnOk result (out.new.items ≡ out.old.items ++ part_text (N.known names.now) (place_of part) value.now) }
 {
     match part {
         Part::Word(text) => put(out, text.as_bytes()),
@@ -44,14 +44,14 @@ fn put_part<N: Naming>(
 
 /// Appends the words of what parts mean, each behind a space.
 #[tactic(auto, unfolding(crate::specs::Printing::part_texts, crate::specs::Printing::spaced))]
-fn put_parts<N: Naming>(
+fn put_parts<N: Known>(
     out: &mut Vec<u8>,
     names: &N,
     parts: &[Part],
     values: &[PartValue],
 ) -> Result<(), Memory>
     ensures { OnOk result (out.new.items
-        ≡ out.old.items ++ spaced (part_texts (N.names names.now) (map place_of parts.now) values.now)) }
+        ≡ out.old.items ++ spaced (part_texts (N.known names.now) (map place_of parts.now) values.now)) }
 {
     match parts {
         [] => Ok(()),
@@ -68,14 +68,14 @@ fn put_parts<N: Naming>(
 
 /// Appends the words of what parts mean, with spaces between.
 #[tactic(auto, unfolding(crate::specs::Printing::part_texts, crate::specs::Printing::joined))]
-fn put_first_parts<N: Naming>(
+fn put_first_parts<N: Known>(
     out: &mut Vec<u8>,
     names: &N,
     parts: &[Part],
     values: &[PartValue],
 ) -> Result<(), Memory>
     ensures { OnOk result (out.new.items
-        ≡ out.old.items ++ joined (part_texts (N.names names.now) (map place_of parts.now) values.now)) }
+        ≡ out.old.items ++ joined (part_texts (N.known names.now) (map place_of parts.now) values.now)) }
 {
     match parts {
         [] => Ok(()),
@@ -91,14 +91,14 @@ fn put_first_parts<N: Naming>(
 
 /// Ends a line with names.
 #[tactic(auto, unfolding(crate::specs::Lines::rest_of_line))]
-fn end_with_names<N: Naming>(
+fn end_with_names<N: Known>(
     out: &mut Vec<u8>,
     names: &N,
     kind: Kind,
     numbers: &[u32],
 ) -> Result<(), Memory>
     ensures { OnOk result (out.new.items
-        ≡ out.old.items ++ rest_of_line (map ((N.names names.now).name kind) numbers.now)) }
+        ≡ out.old.items ++ rest_of_line (map (N.known names.now kind) numbers.now)) }
 {
     for number in numbers {
         put_next(out, names.name(kind, *number))?;
@@ -108,14 +108,14 @@ fn end_with_names<N: Naming>(
 
 /// Ends a line with what stands behind its parts.
 #[tactic(auto, unfolding(crate::specs::Printing::rest_texts, crate::specs::Lines::rest_of_line))]
-fn end_with_rest<N: Naming>(
+fn end_with_rest<N: Known>(
     out: &mut Vec<u8>,
     names: &N,
     rest: Rest,
     values: &[u32],
 ) -> Result<(), Memory>
     ensures { OnOk result (out.new.items
-        ≡ out.old.items ++ rest_of_line (rest_texts (N.names names.now) rest values.now)) }
+        ≡ out.old.items ++ rest_of_line (rest_texts (N.known names.now) rest values.now)) }
 {
     match rest {
         Rest::Nothing => end_line(out),
@@ -126,7 +126,7 @@ fn end_with_rest<N: Naming>(
 
 /// Appends a line by the values of its parts and what stands behind them.
 #[tactic(auto, unfolding(crate::specs::Printing::text_of))]
-pub fn put_line<F: Form, N: Naming>(
+pub fn put_line<F: LineForm, N: Known>(
     out: &mut Vec<u8>,
     names: &N,
     form: F,
@@ -134,7 +134,7 @@ pub fn put_line<F: Form, N: Naming>(
     rest: &[u32],
 ) -> Result<(), Memory>
     ensures { OnOk result (out.new.items
-        ≡ out.old.items ++ text_of (N.names names.now) (F.shape form) (record { values = values.now; rest = rest.now })) }
+        ≡ out.old.items ++ text_of (N.known names.now) (F.shape form) (record { values = values.now; rest = rest.now })) }
 {
     put_first_parts(out, names, form.parts(), values)?;
     end_with_rest(out, names, form.rest(), rest)

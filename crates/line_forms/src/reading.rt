@@ -7,7 +7,7 @@ ghost use Rattle.line_forms.specs.Parts.{place_of};
 ghost use Rattle.line_forms.specs.Reading.{number_of, word_of, all_or_of, read_part, read_at, read_parts, each_of, read_rest, read_row};
 
 use crate::cause::Cause;
-use crate::form::{Form, Line};
+use crate::form::{Line, LineForm};
 use crate::kind::Kind;
 use crate::naming::Naming;
 use crate::part::{Part, PartValue, Rest};
@@ -181,7 +181,7 @@ fn behind<'a, 'b>(words: &'b [&'a [u8]], at: usize) -> &'b [&'a [u8]]
 /// What the words of a line mean by a form. `Form`: the words have not that form; else the first cause in order that
 /// there is among the words.
 #[tactic(auto, unfolding(crate::specs::Reading::read_row), using(crate::proofs::EachWord::length_places))]
-pub fn read_line<F: Form, N: Naming>(
+pub fn read_line<F: LineForm, N: Naming>(
     alloc: Global,
     names: &N,
     form: F,

@@ -4,4 +4,4 @@ use Rattle.line_forms.proofs.form.form_for.Given as goal
 
 abbrev pub invariant-loop-form : goal.invariant-loop-form
 invariant-loop-form g l =
-    form_for g.F.Form.shape (drop l.form-index l.forms) (map (λ w. w.now) l.words) ≡ form_for g.F.Form.shape l.forms (map (λ w. w.now) l.words)
+    form_for g.F.LineForm.shape (drop l.form-index l.forms) (map (λ w. w.now) l.words) ≡ form_for g.F.LineForm.shape l.forms (map (λ w. w.now) l.words)
