@@ -3,10 +3,23 @@ use Rattle.std.proofs.Common.{ℕ, ◌≡◌, Bool, true, false, List, [], ◌�
 use Rattle.std.specs.List.{AllByRecursion}
 use Rattle.std.specs.Str.{bytes_eq}
 use Rattle.std.proofs.lemmas.Slice.Eq.{bytes_eq-Decides}
+use Rattle.dx_base.specs.declared.kinds.Class.{Class}
+use Rattle.dx_base.specs.declared.kinds.Class.TheVariants as class
+use Rattle.dx_base.specs.declared.kinds.Home.{Home}
+use Rattle.dx_base.specs.declared.kinds.Home.TheVariants as home
+use Rattle.dx_base.specs.declared.kinds.ListType.{ListType}
+use Rattle.dx_base.specs.declared.kinds.ListType.TheVariants as listtype
+use Rattle.dx_base.specs.declared.kinds.Routine.{Routine}
+use Rattle.dx_base.specs.declared.kinds.Routine.TheVariants as routine
+use Rattle.dx_flags.specs.declared.layouts.Layout.{Layout}
+use Rattle.dx_flags.specs.declared.layouts.Layout.TheVariants as layout
+use Rattle.line_forms.specs.declared.choice.Choice.TheVariants as choice
+use Rattle.line_forms.specs.declared.choice.Version.{Version}
+use Rattle.line_forms.specs.declared.choice.Version.TheVariants as version
 use Rattle.line_forms.specs.declared.choice.Choice.{Choice}
 use Rattle.line_forms.specs.declared.choice.Choices.{Choices}
 use Rattle.line_forms.specs.declared.choice.Choices.TheVariants as choices
-use Rattle.line_forms.specs.Choices.{choice_text, choices_of, chosen, as_choice}
+use Rattle.line_forms.specs.Choices.{choice_text, choices_of, chosen, as_choice, type_in, home_in, layout_in, class_in, shared_in, visible_in, version_in, routine_in}
 
 -- what holds of each choice holds of what is chosen
 pub chosen_pass : (P : Choice → Type 0) (cs : List Choice) → AllByRecursion P cs → (w : List ℕ) (c : Choice) → chosen cs w ≡ Some c → P c
@@ -48,3 +61,73 @@ own choices.Routine = (record { reads = refl; kind = refl }, (record { reads = r
 -- what is chosen is read of its own word
 pub chosen_own : (k : Choices) (w : List ℕ) (c : Choice) → chosen (choices_of k) w ≡ Some c → IsOwn k c
 chosen_own k w c e = chosen_pass (IsOwn k) (choices_of k) (own k) w c e
+
+-- a choice that is read of its own word
+abbrev pub ReadsOwn : Choices → Choice → Type 0
+ReadsOwn k c = chosen (choices_of k) (choice_text c) ≡ Some c
+
+own_type : (x : ListType) → ReadsOwn choices.Type (choice.Type x)
+unfolding chosen
+own_type listtype.Direct = refl
+own_type listtype.Compute = refl
+own_type listtype.Copy = refl
+
+own_home : (x : Home) → ReadsOwn choices.Home (choice.Home x)
+unfolding chosen
+own_home home.Upload = refl
+own_home home.Readback = refl
+own_home home.Legacy = refl
+own_home home.Enhanced = refl
+
+own_layout : (x : Layout) → ReadsOwn choices.Layout (choice.Layout x)
+unfolding chosen
+own_layout layout.Undefined = refl
+own_layout layout.Common = refl
+own_layout layout.GenericRead = refl
+own_layout layout.UnorderedAccess = refl
+own_layout layout.ShaderResource = refl
+own_layout layout.CopySource = refl
+own_layout layout.CopyDest = refl
+
+own_class : (x : Class) → ReadsOwn choices.Class (choice.Class x)
+unfolding chosen
+own_class class.Cbv = refl
+own_class class.Srv = refl
+own_class class.Uav = refl
+
+own_shared : (x : Bool) → ReadsOwn choices.Shared (choice.Shared x)
+unfolding chosen
+own_shared true = refl
+own_shared false = refl
+
+own_visible : (x : Bool) → ReadsOwn choices.Visible (choice.Visible x)
+unfolding chosen
+own_visible true = refl
+own_visible false = refl
+
+own_version : (x : Version) → ReadsOwn choices.Version (choice.Version x)
+unfolding chosen
+own_version version.One = refl
+own_version version.OneOne = refl
+
+own_routine : (x : Routine) → ReadsOwn choices.Routine (choice.Routine x)
+unfolding chosen
+own_routine routine.Fill = refl
+own_routine routine.Move = refl
+own_routine routine.Add = refl
+own_routine routine.Mul = refl
+own_routine routine.Gather = refl
+own_routine routine.Scatter = refl
+own_routine routine.Sums = refl
+own_routine routine.Histogram = refl
+
+-- a choice of a kind is read of its own word
+pub as_own : (k : Choices) (c : Choice) → ReadsOwn k (as_choice k c)
+as_own choices.Type c = own_type (type_in c)
+as_own choices.Home c = own_home (home_in c)
+as_own choices.Layout c = own_layout (layout_in c)
+as_own choices.Class c = own_class (class_in c)
+as_own choices.Shared c = own_shared (shared_in c)
+as_own choices.Visible c = own_visible (visible_in c)
+as_own choices.Version c = own_version (version_in c)
+as_own choices.Routine c = own_routine (routine_in c)

@@ -27,7 +27,7 @@ use Rattle.line_forms.proofs.SetsBack.{set_again}
 use Rattle.line_forms.proofs.WordsBack.{number_back, word_back, word_small, flag_back}
 
 -- the value at a place
-value_there : (vs us : List PartValue) (v : PartValue) (i : ℕ) → drop i vs ≡ v ∷ us → (value_at vs i ≡ v) × (drop (suc i) vs ≡ us)
+pub value_there : (vs us : List PartValue) (v : PartValue) (i : ℕ) → drop i vs ≡ v ∷ us → (value_at vs i ≡ v) × (drop (suc i) vs ≡ us)
 value_there [] us v zero e = cc
 value_there [] us v (suc i) e = cc
 value_there (x ∷ vs) us v zero e = (cc, cc)
@@ -117,16 +117,16 @@ module _ (n : Naming) where
         rest_shaped row.rest (drop (length row.parts) ws) m.from.1 both.1,
       ) refl)
 
-same_word : (t : List ℕ) → bytes_eq t t ≡ true
+pub same_word : (t : List ℕ) → bytes_eq t t ≡ true
 same_word t = search rules
 
 -- all, or one that is read of its word and is no `all`
-all_or_reads : {A : Type 0} (make : Option A → PartValue) (one : List ℕ → Result A Cause) (text : A → List ℕ) (i : A) →
+pub all_or_reads : {A : Type 0} (make : Option A → PartValue) (one : List ℕ → Result A Cause) (text : A → List ℕ) (i : A) →
     bytes_eq (text i) all_text ≡ false → one (text i) ≡ Ok i → all_or_of make one (text i) ≡ Ok (make (Some i))
 unfolding all_or_of
 all_or_reads make one text i other e = rw (other, e) refl
 
-all_reads : {A : Type 0} (make : Option A → PartValue) (one : List ℕ → Result A Cause) → all_or_of make one all_text ≡ Ok (make None)
+pub all_reads : {A : Type 0} (make : Option A → PartValue) (one : List ℕ → Result A Cause) → all_or_of make one all_text ≡ Ok (make None)
 unfolding all_or_of
 all_reads make one = refl
 

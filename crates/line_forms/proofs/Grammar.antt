@@ -137,7 +137,7 @@ hex_says w i e = by_test (is_data_word w) refl e
     by_test true is e = (is, cc)
     by_test false is e = cc
 
-hex_said : (w : List ℕ) (i : ℕ) → IsHexadecimal i w → word_of w ≡ Ok i
+pub hex_said : (w : List ℕ) (i : ℕ) → IsHexadecimal i w → word_of w ≡ Ok i
 unfolding word_of data_word_of
 hex_said w i h = rw (h.0, h.1) refl
 
@@ -173,7 +173,7 @@ not_all w is h = let no : false ≡ true = sym is ∙ ap (λ x. bytes_eq x all_t
 
 -- all, or the one that a word says
 module _ {A : Type 0} (make : Option A → PartValue) (one : List ℕ → Result A Cause) (w : List ℕ) where
-  all_or_says : (One : A → List ℕ → Type 0) → ((i : A) → one w ≡ Ok i → One i w) → (v : PartValue) → all_or_of make one w ≡ Ok v →
+  pub all_or_says : (One : A → List ℕ → Type 0) → ((i : A) → one w ≡ Ok i → One i w) → (v : PartValue) → all_or_of make one w ≡ Ok v →
       IsAllOr make One v w
   unfolding all_or_of
   all_or_says One says v e = by_test (bytes_eq w all_text) refl e
@@ -371,7 +371,7 @@ abbrev few : List (List ℕ) → Bool
 few ws = nat_le 1 (length ws) && nat_le (length ws) 256
 
 module _ (n : Naming) where
-  rest_say : (r : Rest) (xs : List ℕ) (ws : List (List ℕ)) → read_rest n r ws ≡ Ok xs → SayRest n r xs ws
+  pub rest_say : (r : Rest) (xs : List ℕ) (ws : List (List ℕ)) → read_rest n r ws ≡ Ok xs → SayRest n r xs ws
   unfolding read_rest
   rest_say Nothing xs [] e = (refl, cc)
   rest_say Nothing xs (w ∷ ws) e = absurd (no (length (w ∷ ws) == 0) (grind (arith, nat_tests)) e)

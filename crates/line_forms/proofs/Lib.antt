@@ -6,3 +6,4 @@ pub mod Grammar
 pub mod SetsBack
 pub mod ChoicesBack
 pub mod Good
+pub mod Tests

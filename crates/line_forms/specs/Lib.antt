@@ -9,3 +9,4 @@ pub mod Finding
 pub mod Printing
 pub mod Says
 pub mod Laws
+pub mod Sound

@@ -23,7 +23,7 @@ pub use kind::Kind;
 pub use laws::{
     what_is_printed_is_read, what_is_read_is_read_again, what_is_read_is_what_the_words_say,
 };
-pub use naming::{Known, Naming};
+pub use naming::{Named, Naming};
 pub use part::{Part, PartValue, Rest};
 pub use printing::put_line;
 pub use reading::{read_line, two};

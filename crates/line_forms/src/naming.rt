@@ -22,7 +22,7 @@ pub trait Naming {
 }
 
 /// The names of things.
-pub trait Known {
+pub trait Named {
     ghost use Rattle.line_forms.specs.Printing.{Known};
 
     ghost known: { Self → Known };

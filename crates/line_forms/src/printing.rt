@@ -8,13 +8,13 @@ ghost use Rattle.line_forms.specs.Printing.{part_text, part_texts, rest_texts, s
 use crate::append::{end_line, end_with_words, put, put_data_word, put_decimal, put_flag_word, put_next};
 use crate::form::LineForm;
 use crate::kind::Kind;
-use crate::naming::Known;
+use crate::naming::Named;
 use crate::part::{Part, PartValue, Rest};
 use crate::words::all_word;
 use dx_base::Memory;
 
 /// Appends the word of what a part means.
-fn put_part<N: Known>(
+fn put_part<N: Named>(
     out: &mut Vec<u8>,
     names: &N,
     part: Part,
@@ -44,7 +44,7 @@ fn put_part<N: Known>(
 
 /// Appends the words of what parts mean, each behind a space.
 #[tactic(auto, unfolding(crate::specs::Printing::part_texts, crate::specs::Printing::spaced))]
-fn put_parts<N: Known>(
+fn put_parts<N: Named>(
     out: &mut Vec<u8>,
     names: &N,
     parts: &[Part],
@@ -68,7 +68,7 @@ fn put_parts<N: Known>(
 
 /// Appends the words of what parts mean, with spaces between.
 #[tactic(auto, unfolding(crate::specs::Printing::part_texts, crate::specs::Printing::joined))]
-fn put_first_parts<N: Known>(
+fn put_first_parts<N: Named>(
     out: &mut Vec<u8>,
     names: &N,
     parts: &[Part],
@@ -91,7 +91,7 @@ fn put_first_parts<N: Known>(
 
 /// Ends a line with names.
 #[tactic(auto, unfolding(crate::specs::Lines::rest_of_line))]
-fn end_with_names<N: Known>(
+fn end_with_names<N: Named>(
     out: &mut Vec<u8>,
     names: &N,
     kind: Kind,
@@ -108,7 +108,7 @@ fn end_with_names<N: Known>(
 
 /// Ends a line with what stands behind its parts.
 #[tactic(auto, unfolding(crate::specs::Printing::rest_texts, crate::specs::Lines::rest_of_line))]
-fn end_with_rest<N: Known>(
+fn end_with_rest<N: Named>(
     out: &mut Vec<u8>,
     names: &N,
     rest: Rest,
@@ -126,7 +126,7 @@ fn end_with_rest<N: Known>(
 
 /// Appends a line by the values of its parts and what stands behind them.
 #[tactic(auto, unfolding(crate::specs::Printing::text_of))]
-pub fn put_line<F: LineForm, N: Known>(
+pub fn put_line<F: LineForm, N: Named>(
     out: &mut Vec<u8>,
     names: &N,
     form: F,

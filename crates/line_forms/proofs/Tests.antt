@@ -1,0 +1,322 @@
+-- What is read passes the tests of its parts, and what passes them is read of its own words.
+use Rattle.std.proofs.Common.{ℕ, zero, suc, ◌≡◌, ◌≢◌, ◌∙◌, ◌+◌, ◌<◌, ◌≤◌, ◌^◌, ◌&&◌, ◌⊎◌, inl, inr, not, nat_le, nat_lt, Bool, true, false, List, [], ◌∷◌, ◌++◌, length, map, drop, decimal, Option, None, Some, Ok, Err, Result, refl, sym, ap, subst, add-one, arith}
+use Rattle.std.specs.List.{list_all}
+use Rattle.std.specs.Str.{bytes_eq}
+use Rattle.std.proofs.lemmas.Bool.{and_parts, and_from, lt-ltb, le-leb, ltb-true, leb-true}
+use Rattle.std.proofs.lemmas.List.{length-map}
+use Rattle.std.proofs.lemmas.List.Folds.{list_all-append}
+use Rattle.std.proofs.lemmas.Slice.Eq.{bytes_eq-Decides}
+use Rattle.trace_words.specs.Words.{is_number}
+use Rattle.line_forms.specs.declared.cause.Cause.{Cause}
+use Rattle.line_forms.specs.declared.cause.Cause.TheVariants as cause
+use Rattle.line_forms.specs.declared.choice.Choice.{Choice as Chosen}
+use Rattle.line_forms.specs.declared.form.Line.{Line}
+use Rattle.line_forms.specs.declared.kind.Kind.{Kind}
+use Rattle.line_forms.specs.declared.part.PartValue.{PartValue}
+use Rattle.line_forms.specs.declared.part.PartValue.TheVariants as value
+use Rattle.line_forms.specs.declared.part.Rest.{Rest}
+use Rattle.line_forms.specs.declared.part.Rest.TheVariants.{Nothing, Names, Words}
+use Rattle.line_forms.specs.Causes.{wrapped, two_of}
+use Rattle.line_forms.specs.Choices.{choices_of, chosen, choice_text, as_choice}
+use Rattle.line_forms.specs.Laws.{shaped, shaped_from, shaped_rest, shaped_line, IsGood, AllGood, IsGoodLine, AreNamed}
+use Rattle.line_forms.specs.Lines.{hex_word}
+use Rattle.line_forms.specs.Parts.{Place, Word, Name, NewName, Number, DataWord, FlagWord, Set, Choice, AllOr, AllOrNumber, Row}
+use Rattle.line_forms.specs.Printing.{Known, part_text, rest_texts}
+use Rattle.line_forms.specs.Reading.{Naming, or_form, all_text, number_of, word_of, all_or_of, stands_for, read_part, read_parts, each_of, read_rest, read_row}
+use Rattle.line_forms.specs.Says.{IsDecimal, IsHexadecimal, SayEach, SayRest, SaysLine}
+use Rattle.line_forms.specs.Sets.{rows_of, set_from}
+use Rattle.line_forms.specs.Sound.{all_of, of_some, sound_tests, sound_rest, named_tests, named_rest, all_tests, is_sound_line, is_named_line}
+use Rattle.line_forms.specs.Values.{id_in, name_in, number_in, word_in, set_in, choice_in, all_or_in, all_or_number_in, value_at}
+use Rattle.line_forms.proofs.ChoicesBack.{as_own}
+use Rattle.line_forms.proofs.Good.{value_there, all_or_reads, all_reads, same_word}
+use Rattle.line_forms.proofs.Grammar.{number_says, all_or_says, hex_said, rest_say}
+use Rattle.line_forms.proofs.Results.{made_of, two_read}
+use Rattle.line_forms.proofs.SetsBack.{set_back, set_fits}
+use Rattle.line_forms.proofs.WordsBack.{number_back, word_back, word_small, flag_back}
+
+-- each of some tests is passed
+abbrev pub pass : List Bool → Bool
+pass bs = list_all (λ b. b) bs
+
+-- all of them are
+pub all_from : (bs : List Bool) → pass bs ≡ true → all_of bs ≡ true
+all_from [] h = refl
+all_from (b ∷ []) h = (and_parts b true h).0
+all_from (b ∷ c ∷ bs) h = let both = and_parts b (pass (c ∷ bs)) h in and_from b (all_of (c ∷ bs)) both.0 (all_from (c ∷ bs) both.1)
+
+pub all_each : (bs : List Bool) → all_of bs ≡ true → pass bs ≡ true
+all_each [] h = refl
+all_each (b ∷ []) h = and_from b true h refl
+all_each (b ∷ c ∷ bs) h = let both = and_parts b (all_of (c ∷ bs)) h in and_from b (pass (c ∷ bs)) both.0 (all_each (c ∷ bs) both.1)
+
+-- tests, and others behind them
+pass_join : (xs ys : List Bool) → pass xs ≡ true → pass ys ≡ true → pass (xs ++ ys) ≡ true
+pass_join xs ys a b = list_all-append (λ (x : Bool). x) xs ys ∙ and_from (pass xs) (pass ys) a b
+
+pass_split : (xs ys : List Bool) → pass (xs ++ ys) ≡ true → (pass xs ≡ true) × (pass ys ≡ true)
+pass_split xs ys h = and_parts (pass xs) (pass ys) (sym (list_all-append (λ (x : Bool). x) xs ys) ∙ h)
+
+one_pass : (b : Bool) → b ≡ true → pass (b ∷ []) ≡ true
+one_pass b h = and_from b true h refl
+
+pass_one : (b : Bool) → pass (b ∷ []) ≡ true → b ≡ true
+pass_one b h = (and_parts b true h).0
+
+-- words that differ
+other_words : (a b : List ℕ) → a ≢ b → not (bytes_eq a b) ≡ true
+other_words a b apart = by_test (bytes_eq a b) refl
+  where
+    by_test : (t : Bool) → bytes_eq a b ≡ t → not t ≡ true
+    by_test true is = absurd (apart ((bytes_eq-Decides a b).0 is))
+    by_test false is = refl
+
+not_true : (t : Bool) → not t ≡ true → t ≡ false
+not_true true h = cc
+not_true false h = refl
+
+module _ (n : Naming) where
+  -- what is read passes
+  module _ (test : Place → PartValue → List Bool) (passes : (p : Place) (w : List ℕ) (v : PartValue) → read_part n p w ≡ Ok v → pass (test p v) ≡ true) where
+    parts_pass : (ps : List Place) (ws : List (List ℕ)) (vs : List PartValue) (more : List Bool) → read_parts n ps ws ≡ Ok vs → pass more ≡ true →
+        pass (all_tests test ps vs more) ≡ true
+    unfolding read_parts
+    parts_pass [] ws vs more e h = h
+    parts_pass (p ∷ ps) [] vs more e h =
+        let m = made_of (λ (v : PartValue × List PartValue). v.0 ∷ v.1) (two_of (Err cause.Form) (read_parts n ps [])) vs e in
+        let no : Err cause.Form ≡ Ok m.from.0 = (two_read (Err cause.Form) (read_parts n ps []) m.from m.read).0 in cc
+    parts_pass (p ∷ ps) (w ∷ ws) vs more e h =
+        let m = made_of (λ (v : PartValue × List PartValue). v.0 ∷ v.1) (two_of (read_part n p w) (read_parts n ps ws)) vs e in
+        let both = two_read (read_part n p w) (read_parts n ps ws) m.from m.read in
+        subst (λ x. pass (all_tests test (p ∷ ps) x more) ≡ true) m.makes
+        (pass_join (test p m.from.0) (all_tests test ps m.from.1 more) (passes p w m.from.0 both.0) (parts_pass ps ws m.from.1 more both.1 h))
+
+    line_passes : (rest : List ℕ → List Bool) (row : Row) (ws : List (List ℕ)) (line : Line) →
+        ((xs : List ℕ) (us : List (List ℕ)) → read_rest n row.rest us ≡ Ok xs → pass (rest xs) ≡ true) → read_row n row ws ≡ Ok line →
+        all_of (all_tests test row.parts line.values (rest line.rest)) ≡ true
+    unfolding read_row
+    line_passes rest row ws line others e =
+        let m = made_of (λ (v : List PartValue × List ℕ). record { values = v.0; rest = v.1 })
+        (two_of (read_parts n row.parts ws) (read_rest n row.rest (drop (length row.parts) ws))) line e in
+        let both = two_read (read_parts n row.parts ws) (read_rest n row.rest (drop (length row.parts) ws)) m.from m.read in
+        subst (λ x. all_of (all_tests test row.parts x.values (rest x.rest)) ≡ true) m.makes
+        (all_from (all_tests test row.parts m.from.0 (rest m.from.1))
+        (parts_pass row.parts ws m.from.0 (rest m.from.1) both.0 (others m.from.1 (drop (length row.parts) ws) both.1)))
+
+  sound_part : (p : Place) (w : List ℕ) (v : PartValue) → read_part n p w ≡ Ok v → pass (sound_tests p v) ≡ true
+  sound_part (Word t) w v e = refl
+  sound_part (Name k) w v e = refl
+  sound_part NewName w v e = refl
+  sound_part Number w v e =
+      let m = made_of value.Number (number_of w) v e in
+      subst (λ x. pass (sound_tests Number x) ≡ true) m.makes
+      (one_pass (nat_lt m.from (2 ^ 64)) (lt-ltb m.from (2 ^ 64) (number_says w m.from m.read).0))
+  sound_part DataWord w v e =
+      let m = made_of value.Word (word_of w) v e in
+      subst (λ x. pass (sound_tests DataWord x) ≡ true) m.makes
+      (one_pass (nat_lt m.from (2 ^ 32)) (lt-ltb m.from (2 ^ 32) (word_small w m.from m.read)))
+  sound_part FlagWord w v e =
+      let m = made_of value.Word (word_of w) v e in
+      subst (λ x. pass (sound_tests FlagWord x) ≡ true) m.makes
+      (one_pass (nat_lt m.from (2 ^ 32)) (lt-ltb m.from (2 ^ 32) (word_small w m.from m.read)))
+  sound_part (Set s) w v e =
+      let m = made_of value.Set (set_from (rows_of s) w) v e in
+      let fit = set_fits s w m.from m.read in
+      subst (λ x. pass (sound_tests (Set s) x) ≡ true) m.makes
+      (and_from (nat_lt 0 m.from) (nat_lt m.from 128 && true) (lt-ltb 0 m.from fit.0) (one_pass (nat_lt m.from 128) (lt-ltb m.from 128 fit.1)))
+  sound_part (Choice c) w v e = refl
+  sound_part (AllOr k) w v e = refl
+  sound_part AllOrNumber w v e = by_case (all_or_says value.AllOrNumber number_of w IsDecimal (number_says w) v e)
+    where
+      by_case : ((w ≡ all_text) × (v ≡ value.AllOrNumber None)) ⊎ ((w ≢ all_text) × ((i : ℕ) × IsDecimal i w × (v ≡ value.AllOrNumber (Some i)))) →
+          pass (sound_tests AllOrNumber v) ≡ true
+      by_case (inl h) = rw h.1 refl
+      by_case (inr h) = rw (h.1.2) (one_pass (nat_lt h.1.0 (2 ^ 64)) (lt-ltb h.1.0 (2 ^ 64) h.1.1.0))
+
+  each_small : (xs : List ℕ) (ws : List (List ℕ)) → SayEach IsHexadecimal xs ws → (length xs ≡ length ws) × (list_all (λ x. nat_lt x (2 ^ 32)) xs ≡ true)
+  each_small [] [] h = (refl, refl)
+  each_small [] (w ∷ ws) h = absurd h
+  each_small (x ∷ xs) [] h = absurd h
+  each_small (x ∷ xs) (w ∷ ws) h =
+      let more = each_small xs ws h.1 in
+      (ap suc more.0, and_from (nat_lt x (2 ^ 32)) (list_all (λ y. nat_lt y (2 ^ 32)) xs) (lt-ltb x (2 ^ 32) (word_small w x (hex_said w x h.0))) more.1)
+
+  rest_sound : (r : Rest) (xs : List ℕ) (ws : List (List ℕ)) → read_rest n r ws ≡ Ok xs → pass (sound_rest r xs) ≡ true
+  rest_sound Nothing xs ws e = refl
+  rest_sound (Names k) xs ws e = refl
+  rest_sound Words xs ws e =
+      let says = rest_say n Words xs ws e in
+      let all = each_small xs ws says.2 in
+      and_from (nat_le 1 (length xs)) (nat_le (length xs) 256 && (list_all (λ x. nat_lt x (2 ^ 32)) xs && true)) (le-leb 1 (length xs) (omega (arith, all.0, says.0)))
+      (and_from (nat_le (length xs) 256) (list_all (λ x. nat_lt x (2 ^ 32)) xs && true) (le-leb (length xs) 256 (omega (arith, all.0, says.1)))
+      (one_pass (list_all (λ x. nat_lt x (2 ^ 32)) xs) all.1))
+
+  -- what is read is sound
+  pub sound_read : (row : Row) (ws : List (List ℕ)) (line : Line) → read_row n row ws ≡ Ok line → is_sound_line row line ≡ true
+  sound_read row ws line e = line_passes sound_tests sound_part (sound_rest row.rest) row ws line (λ xs us h. rest_sound row.rest xs us h) e
+
+  -- what is read names things
+  module _ (counts : Kind → ℕ) (known : Known) (named : AreNamed n known) (below : (k : Kind) (w : List ℕ) (i : ℕ) → n.number k w ≡ Ok i → nat_lt i (counts k) ≡ true) where
+    named_part : (p : Place) (w : List ℕ) (v : PartValue) → read_part n p w ≡ Ok v → pass (named_tests counts known p v) ≡ true
+    named_part (Word t) w v e = refl
+    named_part (Name k) w v e =
+        let m = made_of value.Id (n.number k w) v e in
+        subst (λ x. pass (named_tests counts known (Name k) x) ≡ true) m.makes (one_pass (nat_lt m.from (counts k)) (below k w m.from m.read))
+    named_part NewName w v e = refl
+    named_part Number w v e = refl
+    named_part DataWord w v e = refl
+    named_part FlagWord w v e = refl
+    named_part (Set s) w v e = refl
+    named_part (Choice c) w v e = refl
+    named_part (AllOr k) w v e = by_case (all_or_says value.AllOr (n.number k) w (λ i u. n.number k u ≡ Ok i) (λ i h. h) v e)
+      where
+        by_case : ((w ≡ all_text) × (v ≡ value.AllOr None)) ⊎ ((w ≢ all_text) × ((i : ℕ) × (n.number k w ≡ Ok i) × (v ≡ value.AllOr (Some i)))) →
+            pass (named_tests counts known (AllOr k) v) ≡ true
+        by_case (inl h) = rw h.1 refl
+        by_case (inr h) =
+            let i = h.1.0 in
+            let other : not (bytes_eq (known k i) all_text) ≡ true =
+            subst (λ u. not (bytes_eq u all_text) ≡ true) (sym (named.things k w i h.1.1)) (other_words w all_text h.0) in
+            rw (h.1.2)
+            (one_pass (nat_lt i (counts k) && not (bytes_eq (known k i) all_text))
+            (and_from (nat_lt i (counts k)) (not (bytes_eq (known k i) all_text)) (below k w i h.1.1) other))
+    named_part AllOrNumber w v e = refl
+
+    each_below : (k : Kind) (xs : List ℕ) (ws : List (List ℕ)) → SayEach (λ i w. n.number k w ≡ Ok i) xs ws → list_all (λ i. nat_lt i (counts k)) xs ≡ true
+    each_below k [] [] h = refl
+    each_below k [] (w ∷ ws) h = absurd h
+    each_below k (x ∷ xs) [] h = absurd h
+    each_below k (x ∷ xs) (w ∷ ws) h =
+        and_from (nat_lt x (counts k)) (list_all (λ i. nat_lt i (counts k)) xs) (below k w x h.0) (each_below k xs ws h.1)
+
+    rest_named : (r : Rest) (xs : List ℕ) (ws : List (List ℕ)) → read_rest n r ws ≡ Ok xs → pass (named_rest counts r xs) ≡ true
+    rest_named Nothing xs ws e = refl
+    rest_named (Names k) xs ws e = one_pass (list_all (λ i. nat_lt i (counts k)) xs) (each_below k xs ws (rest_say n (Names k) xs ws e))
+    rest_named Words xs ws e = refl
+
+    pub named_read : (row : Row) (ws : List (List ℕ)) (line : Line) → read_row n row ws ≡ Ok line → is_named_line counts known row line ≡ true
+    named_read row ws line e =
+        line_passes (named_tests counts known) named_part (named_rest counts row.rest) row ws line (λ xs us h. rest_named row.rest xs us h) e
+
+-- the test of a new name
+abbrev pub new_tests : (List ℕ → Bool) → Place → PartValue → List Bool
+new_tests new (Word t) v = []
+new_tests new (Name k) v = []
+new_tests new NewName v = new (name_in v) ∷ []
+new_tests new Number v = []
+new_tests new DataWord v = []
+new_tests new FlagWord v = []
+new_tests new (Set s) v = []
+new_tests new (Choice c) v = []
+new_tests new (AllOr k) v = []
+new_tests new AllOrNumber v = []
+
+-- `all` is no number
+no_number : (i : ℕ) → number_of all_text ≡ Ok i → ⊥
+unfolding number_of is_number
+no_number i e = cc
+
+-- a number is not `all`
+no_all : (i : ℕ) → i < 2 ^ 64 → bytes_eq (decimal i) all_text ≡ false
+no_all i small = by_test (bytes_eq (decimal i) all_text) refl
+  where
+    by_test : (t : Bool) → bytes_eq (decimal i) all_text ≡ t → t ≡ false
+    by_test true is = absurd (no_number i (subst (λ w. number_of w ≡ Ok i) ((bytes_eq-Decides (decimal i) all_text).0 is) (number_back i small)))
+    by_test false is = refl
+
+-- what passes the tests is read of its own words
+module _ (n : Naming) (known : Known) (counts : Kind → ℕ) (new : List ℕ → Bool)
+    (called : (k : Kind) (i : ℕ) → nat_lt i (counts k) ≡ true → n.number k (known k i) ≡ Ok i)
+    (fresh : (m : List ℕ) → new m ≡ true → n.fresh m ≡ Ok m) where
+  reads_number : (p : PartValue) → nat_lt (number_in p) (2 ^ 64) ≡ true → wrapped value.Number (number_of (decimal (number_in p))) ≡ Ok (value.Number (number_in p))
+  reads_number p h = ap (wrapped value.Number) (number_back (number_in p) (ltb-true (number_in p) (2 ^ 64) h))
+
+  part_from : (p : Place) (v : PartValue) → shaped p v ≡ v → pass (sound_tests p v) ≡ true → pass (named_tests counts known p v) ≡ true →
+      pass (new_tests new p v) ≡ true → read_part n p (part_text known p v) ≡ Ok v
+  unfolding stands_for
+  part_from (Word t) v is s m f = rw (same_word t) (ap Ok is)
+  part_from (Name k) v is s m f =
+      ap (wrapped value.Id) (called k (id_in v) (pass_one (nat_lt (id_in v) (counts k)) m)) ∙ ap Ok is
+  part_from NewName v is s m f = ap (wrapped value.NewName) (fresh (name_in v) (pass_one (new (name_in v)) f)) ∙ ap Ok is
+  part_from Number v is s m f = reads_number v (pass_one (nat_lt (number_in v) (2 ^ 64)) s) ∙ ap Ok is
+  part_from DataWord v is s m f =
+      ap (wrapped value.Word) (word_back (word_in v) (ltb-true (word_in v) (2 ^ 32) (pass_one (nat_lt (word_in v) (2 ^ 32)) s))) ∙ ap Ok is
+  part_from FlagWord v is s m f =
+      ap (wrapped value.Word) (flag_back (word_in v) (ltb-true (word_in v) (2 ^ 32) (pass_one (nat_lt (word_in v) (2 ^ 32)) s))) ∙ ap Ok is
+  part_from (Set k) v is s m f =
+      let both = and_parts (nat_lt 0 (set_in v)) (nat_lt (set_in v) 128 && true) s in
+      ap (wrapped value.Set) (set_back k (set_in v) (ltb-true 0 (set_in v) both.0) (ltb-true (set_in v) 128 (pass_one (nat_lt (set_in v) 128) both.1)))
+      ∙ ap Ok is
+  part_from (Choice c) v is s m f =
+      subst (λ x. wrapped value.Chosen (or_form (chosen (choices_of c) (choice_text (choice_in x)))) ≡ Ok x) is
+      (ap (λ o. wrapped value.Chosen (or_form o)) (as_own c (choice_in v)))
+  part_from (AllOr k) v is s m f =
+      subst (λ x. all_or_of value.AllOr (n.number k) (part_text known (AllOr k) x) ≡ Ok x) is (by_case (all_or_in v) m)
+    where
+      by_case : (o : Option ℕ) → pass (of_some (λ i. nat_lt i (counts k) && not (bytes_eq (known k i) all_text)) o) ≡ true →
+          all_or_of value.AllOr (n.number k) (part_text known (AllOr k) (value.AllOr o)) ≡ Ok (value.AllOr o)
+      by_case None h = all_reads value.AllOr (n.number k)
+      by_case (Some i) h =
+          let both = and_parts (nat_lt i (counts k)) (not (bytes_eq (known k i) all_text))
+          (pass_one (nat_lt i (counts k) && not (bytes_eq (known k i) all_text)) h) in
+          all_or_reads value.AllOr (n.number k) (known k) i (not_true (bytes_eq (known k i) all_text) both.1) (called k i both.0)
+  part_from AllOrNumber v is s m f =
+      subst (λ x. all_or_of value.AllOrNumber number_of (part_text known AllOrNumber x) ≡ Ok x) is (by_case (all_or_number_in v) s)
+    where
+      by_case : (o : Option ℕ) → pass (of_some (λ i. nat_lt i (2 ^ 64)) o) ≡ true →
+          all_or_of value.AllOrNumber number_of (part_text known AllOrNumber (value.AllOrNumber o)) ≡ Ok (value.AllOrNumber o)
+      by_case None h = all_reads value.AllOrNumber number_of
+      by_case (Some i) h =
+          let small = ltb-true i (2 ^ 64) (pass_one (nat_lt i (2 ^ 64)) h) in
+          all_or_reads value.AllOrNumber number_of decimal i (no_all i small) (number_back i small)
+
+  parts_from : (ps : List Place) (us vs : List PartValue) (i : ℕ) (xs ys zs : List Bool) → drop i vs ≡ us → shaped_from i ps vs ≡ us →
+      pass (all_tests sound_tests ps us xs) ≡ true → pass (all_tests (named_tests counts known) ps us ys) ≡ true →
+      pass (all_tests (new_tests new) ps us zs) ≡ true → AllGood n known ps us × (pass xs ≡ true) × (pass ys ≡ true)
+  parts_from [] [] vs i xs ys zs e is s m f = (tt, s, m)
+  parts_from [] (u ∷ us) vs i xs ys zs e is s m f = cc
+  parts_from (p ∷ ps) [] vs i xs ys zs e is s m f = cc
+  parts_from (p ∷ ps) (u ∷ us) vs i xs ys zs e is s m f =
+      let there = value_there vs us u i e in
+      let head : shaped p (value_at vs i) ≡ u = cc in
+      let tail : shaped_from (i + 1) ps vs ≡ us = cc in
+      let own : shaped p u ≡ u = subst (λ x. shaped p x ≡ u) there.0 head in
+      let ss = pass_split (sound_tests p u) (all_tests sound_tests ps us xs) s in
+      let ms = pass_split (named_tests counts known p u) (all_tests (named_tests counts known) ps us ys) m in
+      let fs = pass_split (new_tests new p u) (all_tests (new_tests new) ps us zs) f in
+      let more = parts_from ps us vs (i + 1) xs ys zs (rw (add-one i) there.1) tail ss.1 ms.1 fs.1 in
+      ((record { kind = own; reads = part_from p u own ss.0 ms.0 fs.0 }, more.0), more.1, more.2)
+
+  each_from : (k : Kind) (xs : List ℕ) → list_all (λ i. nat_lt i (counts k)) xs ≡ true → each_of (n.number k) (map (known k) xs) ≡ Ok xs
+  unfolding each_of two_of
+  each_from k [] h = refl
+  each_from k (x ∷ xs) h =
+      let both = and_parts (nat_lt x (counts k)) (list_all (λ i. nat_lt i (counts k)) xs) h in rw (called k x both.0, each_from k xs both.1) refl
+
+  words_from : (xs : List ℕ) → list_all (λ x. nat_lt x (2 ^ 32)) xs ≡ true → each_of word_of (map hex_word xs) ≡ Ok xs
+  unfolding each_of two_of
+  words_from [] h = refl
+  words_from (x ∷ xs) h =
+      let both = and_parts (nat_lt x (2 ^ 32)) (list_all (λ y. nat_lt y (2 ^ 32)) xs) h in
+      rw (word_back x (ltb-true x (2 ^ 32) both.0), words_from xs both.1) refl
+
+  rest_from : (r : Rest) (xs : List ℕ) → shaped_rest r xs ≡ xs → pass (sound_rest r xs) ≡ true → pass (named_rest counts r xs) ≡ true →
+      read_rest n r (rest_texts known r xs) ≡ Ok xs
+  unfolding read_rest rest_texts
+  rest_from Nothing xs is s m = ap Ok is
+  rest_from (Names k) xs is s m = each_from k xs (pass_one (list_all (λ i. nat_lt i (counts k)) xs) m)
+  rest_from Words xs is s m =
+      let first = and_parts (nat_le 1 (length xs)) (nat_le (length xs) 256 && (list_all (λ x. nat_lt x (2 ^ 32)) xs && true)) s in
+      let second = and_parts (nat_le (length xs) 256) (list_all (λ x. nat_lt x (2 ^ 32)) xs && true) first.1 in
+      let long : length (map hex_word xs) ≡ length xs = length-map xs hex_word in
+      rw (long, first.0, second.0) (words_from xs (pass_one (list_all (λ x. nat_lt x (2 ^ 32)) xs) second.1))
+
+  -- a line of its parts' kinds that passes is read of its own words
+  pub line_from : (row : Row) (line : Line) → shaped_line row line ≡ line → is_sound_line row line ≡ true → is_named_line counts known row line ≡ true →
+      pass (all_tests (new_tests new) row.parts line.values []) ≡ true → IsGoodLine n known row line
+  line_from row line is s m f =
+      let values : shaped_from 0 row.parts line.values ≡ line.values = ap (λ (x : Line). x.values) is in
+      let rest : shaped_rest row.rest line.rest ≡ line.rest = ap (λ (x : Line). x.rest) is in
+      let all = parts_from row.parts line.values line.values 0 (sound_rest row.rest line.rest) (named_rest counts row.rest line.rest) [] refl values
+      (all_each (all_tests sound_tests row.parts line.values (sound_rest row.rest line.rest)) s)
+      (all_each (all_tests (named_tests counts known) row.parts line.values (named_rest counts row.rest line.rest)) m) f in
+      record { values = all.0; rest = rest_from row.rest line.rest rest all.1 all.2 }
