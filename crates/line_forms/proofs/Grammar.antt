@@ -129,7 +129,7 @@ abbrev missing : Result PartValue Cause
 missing = Err cause.Form
 
 -- a hexadecimal word
-hex_says : (w : List ℕ) (i : ℕ) → word_of w ≡ Ok i → IsHexadecimal i w
+pub hex_says : (w : List ℕ) (i : ℕ) → word_of w ≡ Ok i → IsHexadecimal i w
 unfolding word_of data_word_of
 hex_says w i e = by_test (is_data_word w) refl e
   where
@@ -209,7 +209,7 @@ module _ {A : Type 0} (make : Option A → PartValue) (one : List ℕ → Result
 
 module _ (n : Naming) where
   -- a part
-  part_says : (p : Place) (w : List ℕ) (v : PartValue) → read_part n p w ≡ Ok v → Says n p v w
+  pub part_says : (p : Place) (w : List ℕ) (v : PartValue) → read_part n p w ≡ Ok v → Says n p v w
   part_says (Word t) w v e = stands_says t w v e
   part_says (Name k) w v e = let m = made_of value.Id (n.number k w) v e in (m.from, m.read, sym m.makes)
   part_says NewName w v e = let m = made_of value.NewName (n.fresh w) v e in (m.from, m.read, sym m.makes)

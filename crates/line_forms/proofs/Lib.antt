@@ -7,3 +7,5 @@ pub mod SetsBack
 pub mod ChoicesBack
 pub mod Good
 pub mod Tests
+pub mod PlainWords
+pub mod ShortLines

@@ -15,12 +15,12 @@ use Rattle.std.proofs.lemmas.List.Splits.{length-slice_split}
 use Rattle.std.proofs.lemmas.Nat.{or_lt, le_or_r}
 
 -- the numbers below another
-below : ℕ → List ℕ
+unfoldable pub below : ℕ → List ℕ
 below zero = []
 below (suc k) = k ∷ below k
 
 -- what holds of all of them holds of each
-each_below : (P : ℕ → Bool) (k s : ℕ) → list_all P (below k) ≡ true → s < k → P s ≡ true
+pub each_below : (P : ℕ → Bool) (k s : ℕ) → list_all P (below k) ≡ true → s < k → P s ≡ true
 unfolding below
 each_below P zero s all small = absurd (omega arith)
 each_below P (suc k) s all small =

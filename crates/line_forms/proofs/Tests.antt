@@ -56,10 +56,10 @@ pass_join xs ys a b = list_all-append (λ (x : Bool). x) xs ys ∙ and_from (pas
 pass_split : (xs ys : List Bool) → pass (xs ++ ys) ≡ true → (pass xs ≡ true) × (pass ys ≡ true)
 pass_split xs ys h = and_parts (pass xs) (pass ys) (sym (list_all-append (λ (x : Bool). x) xs ys) ∙ h)
 
-one_pass : (b : Bool) → b ≡ true → pass (b ∷ []) ≡ true
+pub one_pass : (b : Bool) → b ≡ true → pass (b ∷ []) ≡ true
 one_pass b h = and_from b true h refl
 
-pass_one : (b : Bool) → pass (b ∷ []) ≡ true → b ≡ true
+pub pass_one : (b : Bool) → pass (b ∷ []) ≡ true → b ≡ true
 pass_one b h = (and_parts b true h).0
 
 -- words that differ
@@ -209,6 +209,27 @@ new_tests new (Set s) v = []
 new_tests new (Choice c) v = []
 new_tests new (AllOr k) v = []
 new_tests new AllOrNumber v = []
+
+-- what is read declares new names
+module _ (n : Naming) (new : List ℕ → Bool) (fresh : (w m : List ℕ) → n.fresh w ≡ Ok m → new m ≡ true) where
+  new_part : (p : Place) (w : List ℕ) (v : PartValue) → read_part n p w ≡ Ok v → pass (new_tests new p v) ≡ true
+  new_part (Word t) w v e = refl
+  new_part (Name k) w v e = refl
+  new_part NewName w v e =
+      let m = made_of value.NewName (n.fresh w) v e in
+      subst (λ x. pass (new_tests new NewName x) ≡ true) m.makes (one_pass (new m.from) (fresh w m.from m.read))
+  new_part Number w v e = refl
+  new_part DataWord w v e = refl
+  new_part FlagWord w v e = refl
+  new_part (Set s) w v e = refl
+  new_part (Choice c) w v e = refl
+  new_part (AllOr k) w v e = refl
+  new_part AllOrNumber w v e = refl
+
+  pub new_read : (row : Row) (ws : List (List ℕ)) (line : Line) → read_row n row ws ≡ Ok line → pass (all_tests (new_tests new) row.parts line.values []) ≡ true
+  new_read row ws line e =
+      all_each (all_tests (new_tests new) row.parts line.values [])
+      (line_passes n (new_tests new) new_part (λ xs. []) row ws line (λ xs us h. refl) e)
 
 -- `all` is no number
 no_number : (i : ℕ) → number_of all_text ≡ Ok i → ⊥

@@ -5,7 +5,7 @@ use Rattle.std.proofs.lemmas.Bool.Decides.{leb_tells}
 use Rattle.dx_base.specs.Faults.{HasRisen}
 use Rattle.d3d_machine.specs.declared.world.World.{World}
 use Rattle.d3d_machine.specs.Play.{state_after}
-use Rattle.trace_text.specs.declared.status.Cause.{Cause}
+use Rattle.line_forms.specs.declared.cause.Cause.{Cause}
 use Rattle.trace_text.specs.declared.status.Status.{Status}
 use Rattle.trace_text.specs.declared.status.Status.TheVariants as status
 use Rattle.trace_text.specs.declared.outcome.Outcome.{Outcome}

@@ -1,5 +1,5 @@
 -- What a trace of rounds says is sound.
-use Rattle.std.proofs.Common.{ℕ, ◌≡◌, ◌<◌, ◌≤◌, ◌*◌, ◌^◌, ◌&&◌, nat_le, nat_lt, true, List, [], ◌∷◌, length, sum_by, refl, arith, lit≤}
+use Rattle.std.proofs.Common.{Bool, ℕ, ◌≡◌, ◌<◌, ◌≤◌, ◌*◌, ◌^◌, ◌&&◌, nat_le, nat_lt, true, List, [], ◌∷◌, length, sum_by, refl, arith, lit≤}
 use Rattle.std.specs.Cmp.{IsEquivalence}
 use Rattle.std.specs.Cmp.Rules.{comparing}
 use Rattle.std.specs.List.{All, flat_map, list_all}
@@ -11,11 +11,11 @@ use Rattle.std.proofs.lemmas.Map.Made.{IsDistinct-from_count}
 use Rattle.d3d_machine.specs.declared.calls.Call.{Call}
 use Rattle.d3d_machine.specs.World.{is_named}
 use Rattle.trace_words.specs.Words.{is_name}
-use Rattle.trace_text.specs.declared.things.Kind.{Kind}
-use Rattle.trace_text.specs.declared.things.Kind.TheVariants as kind
+use Rattle.line_forms.specs.declared.kind.Kind.{Kind}
+use Rattle.line_forms.specs.declared.kind.Kind.TheVariants as kind
 use Rattle.trace_text.specs.Kinds.{count_of, most_of}
 use Rattle.trace_text.specs.Scripts.{lists_of_call}
-use Rattle.trace_text.specs.Sound.{is_wide, is_sound_call, are_data_words, IsSound}
+use Rattle.trace_text.specs.Sound.{is_wide, is_sound_call, IsSound}
 use Rattle.trace_text.specs.WorldOf.{objects_of}
 use Rattle.trace_runner.specs.Rounds.{Round, AreRising, IsSmall, AreSmall, calls_of, world_of_rounds, names_of_rounds, objects_of_rounds, value_of_rounds}
 
@@ -25,6 +25,9 @@ bits [] all = refl
 bits (n ∷ ws) all =
     and_from (nat_lt n (2 ^ 32)) (list_all (λ n. nat_lt n (2 ^ 32)) ws) (lt-ltb n (2 ^ 32) (All-head (λ n. n < 2 ^ 32) n ws all))
     (bits ws (All-tail (λ n. n < 2 ^ 32) n ws all))
+
+abbrev are_data_words : List ℕ → Bool
+are_data_words ws = nat_le 1 (length ws) && (nat_le (length ws) 256 && list_all (λ n. nat_lt n (2 ^ 32)) ws)
 
 data_words : (ws : List ℕ) → length ws ≡ 4 → All (λ n. n < 2 ^ 32) ws → are_data_words ws ≡ true
 data_words ws four all =

@@ -9,14 +9,18 @@ use Rattle.std.proofs.lemmas.List.Elements.{All-head, All-tail}
 use Rattle.trace_words.specs.Lines.{pieces_of}
 use Rattle.trace_text.specs.declared.item.Item.TheVariants.{Calls, Ends}
 use Rattle.trace_text.specs.Grammar.{text_of_lines}
-use Rattle.trace_text.specs.Items.{items_of, item_text, object_items, thread_items, trace_text}
+use Rattle.trace_text.specs.Formed.{item_text}
+use Rattle.line_forms.specs.Printing.{part_texts, rest_texts, line_words, joined, spaced, text_of}
+use Rattle.trace_text.specs.Items.{items_of, object_items, thread_items, trace_text}
 use Rattle.trace_text.specs.Known.{KnownNames, known_names, names_of_kind}
 use Rattle.trace_text.specs.Laws.{HasShortLines}
-use Rattle.trace_text.specs.Text.{hex_word, hex_from, line_text, rest_of_line}
+use Rattle.line_forms.specs.Lines.{hex_word, hex_from, rest_of_line}
 use Rattle.trace_text.specs.Values.{value_of}
 use Rattle.trace_text.specs.WorldOf.{objects_of, world_of_value}
-use Rattle.trace_text.proofs.PrintedItems.{printed_line, printed_lines}
-use Rattle.trace_text.proofs.PrintedLines.{line_of, data_long}
+use Rattle.line_forms.proofs.PlainWords.{line_of}
+use Rattle.line_forms.proofs.WordsBack.{length_hex}
+use Rattle.trace_text.proofs.Fitting.{printed_line}
+use Rattle.trace_text.proofs.PrintedItems.{printed_lines}
 use Rattle.trace_text.proofs.PrintedTraces.{text_is}
 use Rattle.trace_text.proofs.SoundWritten.{sound_reads}
 use Rattle.trace_runner.specs.Rounds.{Round, AreRising, IsSmall, AreSmall, IsOfRounds, first_round, first_lines, calls_of, names_of_rounds, objects_of_rounds, value_of_rounds}
@@ -32,6 +36,13 @@ value_brief word v few small =
     let digits : length (decimal v) ≤ 20 = length-decimal-le 20 v (lit< tt) (omega (arith, small)) small in
     omega (arith, length-append word (decimal v), digits, few)
 
+-- the length of a line that ends with data words
+data_long : (word : List ℕ) (ns : List ℕ) → length (line_of (word ∷ map hex_word ns)) ≡ length word + 9 * length ns
+unfolding hex_word
+data_long word [] = omega arith
+data_long word (n ∷ ns) =
+    omega (arith, length-append word (32 ∷ line_of (hex_word n ∷ map hex_word ns)), data_long (hex_word n) ns, length_hex 8 n)
+
 -- the line that writes four words
 words_brief : (ws : List ℕ) → length ws ≡ 4 → length (line_of (codes "write" ∷ codes "u" ∷ decimal 0 ∷ map hex_word ws)) ≤ 63
 unfolding digits
@@ -40,7 +51,7 @@ words_brief ws four = omega (arith, data_long (decimal 0) ws, four)
 -- the lines of the calls and the last line
 calls_brief : (v : ℕ) (rounds : List Round) → AreRising v rounds → AreSmall rounds →
     AreBrief (printed_lines names ((map Calls (flat_map calls_of rounds) ++ []) ++ Ends ∷ []))
-unfolding calls_of names_of_kind digits
+unfolding calls_of names_of_kind digits line_words part_texts rest_texts
 calls_brief v [] rising small = (lit≤ tt, tt)
 calls_brief v (r ∷ rounds) rising small =
     let one = All-head (λ r. IsSmall r) r rounds small in
@@ -51,7 +62,7 @@ calls_brief v (r ∷ rounds) rising small =
 
 -- all lines
 lines_brief : (rounds : List Round) → AreRising 0 rounds → AreSmall rounds → AreBrief (printed_lines names (items_of (value_of_rounds rounds)))
-unfolding object_items thread_items names_of_kind digits
+unfolding object_items thread_items names_of_kind digits line_words part_texts rest_texts
 lines_brief rounds rising small =
     (lit≤ tt, (lit≤ tt, (lit≤ tt, (lit≤ tt, (lit≤ tt, (lit≤ tt, (lit≤ tt, (lit≤ tt, (lit≤ tt, calls_brief 0 rounds rising small)))))))))
 
@@ -94,5 +105,5 @@ rounds_have_worlds rounds rising = record { rounds = rounds; rising = rising; wo
 
 -- the text of the first example's round
 pub first_text : trace_text (value_of_rounds (first_round ∷ [])) ≡ text_of_lines first_lines
-unfolding trace_text item_text line_text rest_of_line object_items thread_items names_of_kind calls_of hex_word hex_from digits
+unfolding trace_text item_text text_of joined spaced part_texts rest_texts rest_of_line object_items thread_items names_of_kind calls_of hex_word hex_from digits
 first_text = refl

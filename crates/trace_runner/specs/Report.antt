@@ -8,7 +8,7 @@ use Rattle.d3d_machine.specs.declared.events.Event.{Event}
 use Rattle.d3d_machine.specs.Play.{AreOfScripts, IsRun, IsRunButWords, IsFinished, state_after}
 use Rattle.text_io.specs.Prefix.{AppendsPart}
 use Rattle.trace_text.specs.declared.outcome.Outcome.{Outcome}
-use Rattle.trace_text.specs.declared.status.Cause.{Cause}
+use Rattle.line_forms.specs.declared.cause.Cause.{Cause}
 use Rattle.trace_text.specs.declared.status.Status.{Status}
 use Rattle.trace_text.specs.declared.status.Status.TheVariants as status
 use Rattle.trace_text.specs.Output.{output_of, refused_of}

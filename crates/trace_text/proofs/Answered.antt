@@ -3,7 +3,8 @@ use Rattle.std.proofs.Common.{add-zero, add-one, ◌<◌, drop, drop-cons, get_o
 use Rattle.std.proofs.lemmas.Grind.{flat_map-append}
 use Rattle.d3d_machine.specs.declared.calls.Reply.{Reply}
 use Rattle.d3d_machine.specs.declared.events.Event.{Event}
-use Rattle.trace_text.specs.Text.{line_text, answer_lines, replies_by, replies_in}
+use Rattle.line_forms.specs.Lines.{line_text}
+use Rattle.trace_text.specs.Text.{answer_lines, replies_by, replies_in}
 
 -- the lines of answered calls, then those of later ones
 pub answers_append : (name : List ℕ) (k : ℕ) (rs ss : List Reply) →

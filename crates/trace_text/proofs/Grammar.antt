@@ -4,25 +4,19 @@ use Rattle.std.specs.List.{All, AllByRecursion, list_all, slice_split, join_with
 use Rattle.std.proofs.lemmas.Bool.{and_parts, eqb-true, ltb-false, le-ltb}
 use Rattle.std.proofs.lemmas.Bool.Decides.{nat_tests}
 use Rattle.std.proofs.lemmas.List.{nil_from_length}
-use Rattle.std.proofs.lemmas.List.Elements.{All-from_get_or}
 use Rattle.std.proofs.lemmas.List.Splits.{slice_split_at, join_with_byte-slice_split}
 use Rattle.trace_words.specs.Lines.{pieces_of, is_plain, is_plain_byte}
-use Rattle.trace_words.proofs.Digits.{passes_at}
 use Rattle.trace_text.specs.declared.reading.Reading.{Reading}
-use Rattle.trace_text.specs.declared.status.Cause.{Cause}
-use Rattle.trace_text.specs.declared.status.Cause.TheVariants as cause
+use Rattle.line_forms.specs.declared.cause.Cause.{Cause}
+use Rattle.line_forms.specs.declared.cause.Cause.TheVariants as cause
 use Rattle.trace_text.specs.Grammar.{text_of_lines, IsTextOf}
 use Rattle.trace_text.specs.Reading.{opening, and_then}
 use Rattle.trace_text.specs.Texts.{with_line, with_last, sized, pieces_from, reading_of}
 use Rattle.trace_text.specs.Values.{Value, valued, value_of, with_lines}
 use Rattle.trace_text.proofs.TextSteps.{stepped, HasFirst}
+use Rattle.line_forms.proofs.PlainWords.{apart_from}
 use Rattle.trace_text.proofs.Taking.{line_passes}
 use Rattle.trace_text.proofs.Written.{at_line_ok, sized_ok, last_ok, cons_read}
-
--- the bytes of a list are apart from one that fails a test that they pass
-pub apart_from : (byte : ℕ) (p : ℕ → Bool) (xs : List ℕ) → ((b : ℕ) → p b ≡ true → eqb b byte ≡ false) → list_all p xs ≡ true →
-    All (λ b. eqb b byte ≡ false) xs
-apart_from byte p xs apart all = All-from_get_or (λ b. eqb b byte ≡ false) xs 0 (λ i below. apart (get_or xs i 0) (passes_at p xs i all below))
 
 -- a plain byte is no line feed
 plain_feeds : (b : ℕ) → is_plain_byte b ≡ true → eqb b 10 ≡ false

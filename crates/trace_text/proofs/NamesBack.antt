@@ -10,7 +10,7 @@ use Rattle.std.proofs.lemmas.Bool.Decides.{leb_tells}
 use Rattle.std.proofs.lemmas.List.{map_push, length-map}
 use Rattle.std.proofs.lemmas.Option.{slice_get-get_or}
 use Rattle.trace_text.specs.declared.object.Declared.{Declared}
-use Rattle.trace_text.specs.declared.things.Kind.{Kind}
+use Rattle.line_forms.specs.declared.kind.Kind.{Kind}
 use Rattle.trace_text.specs.declared.things.Thing.{Thing}
 use Rattle.trace_text.specs.Kinds.{kind_of, count_of, next_thing}
 use Rattle.trace_text.specs.Known.{names_of_kind}
@@ -18,9 +18,7 @@ use Rattle.trace_text.specs.Names.{name_at}
 use Rattle.trace_text.specs.Sound.{is_fit_name}
 use Rattle.trace_text.specs.Things.{Names, same_kind}
 use Rattle.trace_text.proofs.Naming.{names_in, get_front, get_last, names_push, names_behind, names_count}
-use Rattle.trace_text.proofs.PartsBack.{fit_parts}
-use Rattle.trace_text.proofs.PrintedParts.{name_there}
-use Rattle.trace_text.proofs.Says.{IsNameOf, kinds_same}
+use Rattle.trace_text.proofs.Says.{IsNameOf, kinds_same, fit_parts, name_there}
 use Rattle.trace_text.proofs.SoundValues.{count_push}
 
 -- equal bytes are an equivalence

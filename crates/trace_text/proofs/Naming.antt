@@ -7,15 +7,15 @@ use Rattle.std.proofs.lemmas.List.{map_push, length-map}
 use Rattle.std.proofs.lemmas.List.Sums.{sum_by-cons}
 use Rattle.indexmap.specs.IndexMap.{insert_entry}
 use Rattle.trace_text.specs.declared.object.Declared.{Declared}
-use Rattle.trace_text.specs.declared.things.Kind.{Kind}
-use Rattle.trace_text.specs.declared.things.Kind.TheVariants as kind
+use Rattle.line_forms.specs.declared.kind.Kind.{Kind}
+use Rattle.line_forms.specs.declared.kind.Kind.TheVariants as kind
 use Rattle.trace_text.specs.declared.things.Thing.{Thing}
 use Rattle.trace_text.specs.Kinds.{kind_of, count_of, next_thing}
 use Rattle.trace_text.specs.Known.{names_of_kind}
 use Rattle.trace_text.specs.Things.{Names, same_kind}
 use Rattle.trace_text.specs.Scripts.{with_call}
 use Rattle.d3d_machine.specs.declared.calls.Call.{Call}
-use Rattle.trace_text.proofs.Says.{IsNameOf, bytes_same}
+use Rattle.trace_text.proofs.Says.{IsNameOf, bytes_same, kind_same}
 
 -- the names alone
 abbrev pub names_in : Names → List (List ℕ)
@@ -113,15 +113,6 @@ abbrev pub ArePlaced : Names → List Declared → Type 0
 ArePlaced names ds =
     (k : Kind) (i : ℕ) (w : List ℕ) → same_kind k kind.Thread ≡ false → IsNameOf names k i w →
     slice_get (names_of_kind k (names_in names) ds) i ≡ Some w
-
--- a kind is itself
-pub kind_same : (k : Kind) → same_kind k k ≡ true
-kind_same kind.Queue = refl
-kind_same kind.Fence = refl
-kind_same kind.Resource = refl
-kind_same kind.Allocator = refl
-kind_same kind.List = refl
-kind_same kind.Thread = refl
 
 -- a name of an object that was there is in its place, and so is the new one
 placed_old : (k : Kind) (i : ℕ) (w : List ℕ) (ns : List (List ℕ)) (ds : List Declared) (n : List ℕ) (d : Declared) → length ns ≡ length ds →

@@ -6,17 +6,14 @@ use Rattle.trace_text.specs.declared.item.Item.{Item}
 use Rattle.trace_text.specs.declared.item.Item.TheVariants.{Declares, Starts, Calls}
 use Rattle.trace_text.specs.declared.object.Declared.{Declared}
 use Rattle.trace_text.specs.declared.object.Declared.TheVariants.{Queue, Fence, Buffer, Allocator, List as list}
-use Rattle.trace_text.specs.declared.things.Kind.TheVariants as kind
-use Rattle.trace_text.specs.Items.{item_words, object_items, thread_items}
+use Rattle.line_forms.specs.declared.kind.Kind.TheVariants as kind
+use Rattle.line_forms.specs.Printing.{part_texts, rest_texts, line_words}
+use Rattle.trace_text.specs.Items.{object_items, thread_items}
 use Rattle.trace_text.specs.Known.{KnownNames, known_names}
 use Rattle.trace_text.specs.Scripts.{with_call}
 use Rattle.trace_text.proofs.Naming.{names_behind}
-use Rattle.trace_text.proofs.PrintedLines.{line_of}
+use Rattle.trace_text.proofs.Fitting.{printed_line}
 use Rattle.trace_text.proofs.Printing.{no_threads}
-
--- the line of what it means
-abbrev pub printed_line : KnownNames → Item → List ℕ
-printed_line known i = line_of (item_words known i)
 
 -- the lines of what they mean
 abbrev pub printed_lines : KnownNames → List Item → List (List ℕ)
@@ -101,6 +98,7 @@ body_call ns ds ss c long some =
 
 -- the line of an object is the same whatever names are known
 pub object_line : (a b : KnownNames) (n : List ℕ) (d : Declared) → printed_line a (Declares n d) ≡ printed_line b (Declares n d)
+unfolding line_words part_texts rest_texts
 object_line a b n (Queue t) = refl
 object_line a b n (Fence v) = refl
 object_line a b n (Buffer h k) = refl

@@ -1,46 +1,46 @@
 -- What was read, printed line by line, is read again.
-use Rattle.std.proofs.Common.{drop, ℕ, ◌≡◌, ◌⊎◌, inl, inr, ◌≤◌, ◌==◌, ◌∙◌, nat_lt, Bool, true, false, List, [], ◌∷◌, ◌++◌, length, flat_map, Result, Ok, Err, refl, sym, ap, subst, arith, append_assoc, append-nil, if◌then◌else◌}
+use Rattle.std.proofs.Common.{drop, ℕ, ◌≡◌, ◌⊎◌, inl, inr, ◌≤◌, ◌==◌, ◌∙◌, nat_le, nat_lt, Bool, true, false, List, [], ◌∷◌, ◌++◌, length, flat_map, Result, Ok, Err, refl, sym, ap, subst, arith, append_assoc, append-nil, if◌then◌else◌}
 use Rattle.std.specs.Str.{bytes_eq}
 use Rattle.std.proofs.Math.Logic.{∥∥₁_elim}
 use Rattle.std.proofs.Props.{props}
-use Rattle.std.proofs.lemmas.Bool.{or_cases}
+use Rattle.std.proofs.lemmas.Bool.{or_cases, and_parts, leb-true}
 use Rattle.std.proofs.lemmas.List.{map_push}
 use Rattle.indexmap.specs.IndexMap.{insert_entry}
 use Rattle.d3d_machine.specs.declared.calls.Call.{Call}
-use Rattle.d3d_machine.specs.declared.calls.Call.TheVariants as call
-use Rattle.d3d_machine.specs.declared.calls.Record.TheVariants.{Copy}
 use Rattle.trace_text.specs.declared.item.Item.{Item}
 use Rattle.trace_text.specs.declared.item.Item.TheVariants.{Header, Declares, Starts, Calls, Ends}
-use Rattle.trace_text.specs.declared.keyword.Keyword.{Keyword}
-use Rattle.trace_text.specs.declared.keyword.Keyword.TheVariants as keyword
 use Rattle.trace_text.specs.declared.object.Declared.{Declared}
-use Rattle.trace_text.specs.declared.object.Declared.TheVariants as declared
 use Rattle.trace_text.specs.declared.reading.Reading.{Reading}
-use Rattle.trace_text.specs.declared.status.Cause.{Cause}
-use Rattle.trace_text.specs.declared.things.Kind.TheVariants as kind
+use Rattle.line_forms.specs.declared.cause.Cause.{Cause}
+use Rattle.line_forms.specs.declared.kind.Kind.TheVariants as kind
 use Rattle.trace_text.specs.declared.things.Thing.{Thing}
 use Rattle.trace_text.specs.declared.trace.Trace.{Trace}
-use Rattle.trace_text.specs.Forms.{form_of}
 use Rattle.trace_text.specs.Grammar.{text_of_lines}
-use Rattle.trace_text.specs.Items.{item_text, items_of, object_items, thread_items, trace_text}
-use Rattle.trace_text.specs.Kinds.{next_thing}
+use Rattle.trace_text.specs.Formed.{item_formed, item_words, item_text}
+use Rattle.trace_text.specs.Forms.{form_row}
+use Rattle.trace_text.specs.Items.{items_of, object_items, thread_items, trace_text}
+use Rattle.line_forms.specs.Printing.{part_texts, rest_texts, line_words}
+use Rattle.trace_text.specs.Kinds.{kind_of, next_thing}
 use Rattle.trace_text.specs.Known.{KnownNames, known_names}
-use Rattle.trace_text.specs.Reading.{opening, and_then, with_item, class_of, is_header, is_misplaced}
+use Rattle.trace_text.specs.Reading.{opening, and_then, with_item, is_header, is_misplaced}
 use Rattle.trace_text.specs.Seen.{seen}
-use Rattle.trace_text.specs.Shapes.{Values, made, read_form, read_parts}
+use Rattle.trace_words.specs.Lines.{is_plain, is_plain_byte}
+use Rattle.std.specs.List.{list_all}
+use Rattle.trace_text.specs.declared.form.Class.TheVariants as class
 use Rattle.trace_text.specs.Texts.{with_line}
+use Rattle.trace_text.specs.Things.{same_kind}
 use Rattle.trace_text.specs.Values.{Value, value_in, value_of, with_lines, AreLinesOf, IsWritten}
 use Rattle.trace_text.proofs.Grammar.{written_reads}
-use Rattle.trace_text.proofs.Meaning.{made_of, parts_mean}
 use Rattle.trace_text.proofs.Naming.{names_in}
-use Rattle.trace_text.proofs.PrintedForms.{known_in, again}
-use Rattle.trace_text.proofs.PrintedItems.{printed_line, printed_lines, body_items, body_object, body_thread, body_call, body_lines, object_line, known_behind}
-use Rattle.trace_text.proofs.PrintedLines.{line_is}
-use Rattle.trace_text.proofs.Said.{AllSaid, all_said}
-use Rattle.trace_text.proofs.Says.{IsNew, Says, part_says}
-use Rattle.trace_text.proofs.Sound.{IsKept, stands, named, no_threads, some_threads}
+use Rattle.line_forms.proofs.PlainWords.{line_again}
+use Rattle.line_forms.proofs.Tests.{pass, pass_one}
+use Rattle.trace_text.proofs.Fitting.{printed_line, item_line, item_taken, fits_again, short_again}
+use Rattle.trace_text.proofs.Own.{item_news, item_class, own}
+use Rattle.trace_text.proofs.Says.{IsNew, is_new, new_facts}
+use Rattle.trace_text.proofs.PrintedItems.{printed_lines, body_items, body_object, body_thread, body_call, body_lines, object_line, known_behind}
+use Rattle.trace_text.proofs.Sound.{IsKept, known_in, stands, named, no_threads, some_threads, object_place, news_pass}
 use Rattle.trace_text.proofs.SoundLines.{lines_keep, line_kept, opening_kept}
-use Rattle.trace_text.proofs.Taking.{Takes, line_passes, taken_line}
+use Rattle.trace_text.proofs.Taking.{Takes, line_passes, item_reads, taken_line}
 
 -- the lines of what was read, as items
 abbrev pub body_in : Reading → List Item
@@ -97,6 +97,7 @@ items_closed r begun ended = by_tests r.begun r.ended begun ended (body_in r)
 -- a line more at the end of the others
 push_line : (a b : KnownNames) (body : List Item) (i : Item) → printed_lines a body ≡ printed_lines b body → printed_line a i ≡ printed_line b i →
     printed_lines a (Header ∷ (body ++ i ∷ [])) ≡ printed_lines b (Header ∷ body) ++ printed_line b i ∷ []
+unfolding line_words part_texts rest_texts
 push_line a b body i same one =
     ap (λ more. printed_line b Header ∷ more) (map_push (printed_line a) body i ∙ (rw (same, one) refl))
 
@@ -156,48 +157,26 @@ module _ (r : Reading) (kept : IsKept r) (begun : r.begun ≡ true) (ended : r.e
       ∙ (push_line (known_in r) (known_in r) (body_in r) Ends refl refl
       ∙ ap (λ items. printed_lines (known_in r) items ++ printed_line (known_in r) Ends ∷ []) (sym (items_open r begun ended)))
 
-  -- each form grows the lines
-  grow_form : (k : Keyword) (v : Values (form_of k).shape) → AllSaid r.names (form_of k).shape v → is_misplaced r (class_of k) ≡ false →
-      Grows r (made (form_of k).shape (form_of k).make v)
-  grow_form keyword.D3dtrace v said place = cc
-  grow_form keyword.Queue v said place = grow_object v.0 said.0.0 (declared.Queue v.1) said.0.1 place
-  grow_form keyword.Fence v said place = grow_object v.0 said.0.0 (declared.Fence v.1) said.0.1 place
-  grow_form keyword.Buffer v said place = grow_object v.0 said.0.0 (declared.Buffer v.1 v.2) said.0.1 place
-  grow_form keyword.Allocator v said place = grow_object v.0 said.0.0 (declared.Allocator v.1) said.0.1 place
-  grow_form keyword.List v said place = grow_object v.0 said.0.0 (declared.List v.1) said.0.1 place
-  grow_form keyword.Thread v said place = grow_thread v said.0 said.1
-  grow_form keyword.Write v said place = grow_call (call.Write v.0 v.1 v.2) place
-  grow_form keyword.Reset v said place = grow_call (call.Reset v.0 v.1) place
-  grow_form keyword.Copy v said place = grow_call (call.Recording v.0 (Copy v.1 v.2 v.3 v.4 v.5)) place
-  grow_form keyword.Close v said place = grow_call (call.Close v) place
-  grow_form keyword.Execute v said place = grow_call (call.Execute v.0 v.1) place
-  grow_form keyword.Signal v said place = grow_call (call.Signal v.0 v.1 v.2) place
-  grow_form keyword.HostSignal v said place = grow_call (call.HostSignal v.0 v.1) place
-  grow_form keyword.HostWait v said place = grow_call (call.HostWait v.0 v.1) place
-  grow_form keyword.Value v said place = grow_call (call.Value v) place
-  grow_form keyword.Read v said place = grow_call (call.Read v.0 v.1 v.2) place
-  grow_form keyword.End v said place = grow_end
+  -- each item grows the lines
+  grow_item : (i : Item) → pass (item_news (is_new r.names) i) ≡ true → is_misplaced r (item_class i) ≡ false → Grows r i
+  grow_item Header new place = cc
+  grow_item (Declares n d) new place =
+      grow_object n n d (new_facts r.names n (pass_one (is_new r.names n) new)) (sym (object_place r d) ∙ place)
+  grow_item (Starts n) new place = grow_thread n n (new_facts r.names n (pass_one (is_new r.names n) new))
+  grow_item (Calls c) new place = grow_call c place
+  grow_item Ends new place = grow_end
 
--- only one first word begins a trace
-header_word : (k : Keyword) → is_header (class_of k) ≡ true → k ≡ keyword.D3dtrace
-header_word keyword.D3dtrace e = refl
-header_word keyword.Queue e = cc
-header_word keyword.Fence e = cc
-header_word keyword.Buffer e = cc
-header_word keyword.Allocator e = cc
-header_word keyword.List e = cc
-header_word keyword.Thread e = cc
-header_word keyword.Write e = cc
-header_word keyword.Reset e = cc
-header_word keyword.Copy e = cc
-header_word keyword.Close e = cc
-header_word keyword.Execute e = cc
-header_word keyword.Signal e = cc
-header_word keyword.HostSignal e = cc
-header_word keyword.HostWait e = cc
-header_word keyword.Value e = cc
-header_word keyword.Read e = cc
-header_word keyword.End e = cc
+-- only one item begins a trace
+header_item : (i : Item) → is_header (item_class i) ≡ true → i ≡ Header
+header_item Header e = refl
+header_item (Declares n d) e = absurd (no (same_kind kind.Queue (kind_of d)) e)
+  where
+    no : (t : Bool) → is_header (if t then class.Queue else class.Declaration) ≡ true → ⊥
+    no true e = cc
+    no false e = cc
+header_item (Starts n) e = cc
+header_item (Calls c) e = cc
+header_item Ends e = cc
 
 -- the first line of all
 grow_header : (r : Reading) → r ≡ opening → Grows r Header
@@ -223,16 +202,12 @@ record IsAdded (r : Reading) (i : Item) : Type 0 where
   begun : (with_item r i).begun ≡ true
   grows : Grows r i
 
--- a form adds its line
-added_form : (r : Reading) (k : Keyword) (v : Values (form_of k).shape) → IsPrinted r → r.ended ≡ false → AllSaid r.names (form_of k).shape v →
-    is_misplaced r (class_of k) ≡ false → (r.begun ≡ true) ⊎ (k ≡ keyword.D3dtrace) → IsAdded r (made (form_of k).shape (form_of k).make v)
-added_form r k v p ended said place (inl begun) = record {
-  begun = begun_stays r (made (form_of k).shape (form_of k).make v) begun;
-  grows = grow_form r p.kept begun ended k v said place;
-}
-added_form r k v p ended said place (inr head) =
-    subst (λ k. (v : Values (form_of k).shape) → is_misplaced r (class_of k) ≡ false → IsAdded r (made (form_of k).shape (form_of k).make v))
-    (sym head) (λ v place. first place p.begun) v place
+-- an item adds its line
+added_item : (r : Reading) (i : Item) → IsPrinted r → r.ended ≡ false → pass (item_news (is_new r.names) i) ≡ true → is_misplaced r (item_class i) ≡ false →
+    (r.begun ≡ true) ⊎ (i ≡ Header) → IsAdded r i
+added_item r i p ended new place (inl begun) = record { begun = begun_stays r i begun; grows = grow_item r p.kept begun ended i new place }
+added_item r i p ended new place (inr head) =
+    subst (IsAdded r) (sym head) (first (subst (λ j. is_misplaced r (item_class j) ≡ false) head place) p.begun)
   where
     first : r.begun ≡ false → (r ≡ opening) ⊎ (r.begun ≡ true) → IsAdded r Header
     first not_yet (inl is) = record { begun = begins r; grows = grow_header r is }
@@ -240,25 +215,28 @@ added_form r k v p ended said place (inr head) =
 
 -- a line that is taken
 words_printed : (r s : Reading) (line : List ℕ) → IsPrinted r → Takes r line s → IsPrinted s
-unfolding read_form
+unfolding is_plain
 words_printed r s line p t =
     let taken = t.others in
-    let f = form_of t.keyword in
-    let m = made_of (made f.shape f.make) (read_parts r.names f.shape t.ws) taken.item taken.means in
-    let said = all_said r.names f.shape m.from t.ws (parts_mean r.names (Says r.names) (part_says r.names) f.shape t.ws m.from m.read) in
-    let place = stands r (class_of t.keyword) taken.in_place in
-    let added = subst (IsAdded r) m.makes
-    (added_form r t.keyword m.from p t.open_yet said place.placed (by_start (or_cases r.begun (is_header (class_of t.keyword)) place.begun))) in
-    let reads = lines_push (lines_in r) (printed_line (known_in r) taken.item) opening r s p.reads (again r s line p.kept t) in
+    let i = taken.item in
+    let read = item_reads r.names taken.form t.ws i taken.means in
+    let fits = fits_again r s line p.kept t in
+    let short_line : length line ≤ 4096 = leb-true (length line) 4096 (and_parts (nat_le (length line) 4096) (list_all is_plain_byte line) t.plain).0 in
+    let short = short_again r s line p.kept t (subst (λ l. length l ≤ 4096) (sym (line_again line t.ws t.words)) short_line) in
+    let again : with_line r (printed_line (known_in r) i) ≡ Ok s = item_taken r (known_in r) i fits short ∙ ap Ok taken.becomes in
+    let place = stands r (item_class i) fits.place in
+    let new = news_pass r p.kept t.ws taken.in_time i read.reads in
+    let added = added_item r i p t.open_yet new place.placed (by_start i (or_cases r.begun (is_header (item_class i)) place.begun)) in
+    let reads = lines_push (lines_in r) (printed_line (known_in r) i) opening r s p.reads again in
     record {
       kept = line_kept r s line p.kept (taken_line r s line t);
       begun = inr (subst (λ u. u.begun ≡ true) taken.becomes added.begun);
       reads = subst (λ u. with_lines opening (lines_in u) ≡ Ok s) taken.becomes (rw (added.grows) reads);
     }
   where
-    by_start : (r.begun ≡ true) ⊎ (is_header (class_of t.keyword) ≡ true) → (r.begun ≡ true) ⊎ (t.keyword ≡ keyword.D3dtrace)
-    by_start (inl is) = inl is
-    by_start (inr is) = inr (header_word t.keyword is)
+    by_start : (i : Item) → (r.begun ≡ true) ⊎ (is_header (item_class i) ≡ true) → (r.begun ≡ true) ⊎ (i ≡ Header)
+    by_start i (inl is) = inl is
+    by_start i (inr is) = inr (header_item i is)
 
 -- a line is printed and read again
 line_printed : (r s : Reading) (line : List ℕ) → IsPrinted r → with_line r line ≡ Ok s → IsPrinted s
@@ -272,11 +250,6 @@ line_printed r s line p e = by_line (line_passes r s line e).either
 opening_printed : IsPrinted opening
 unfolding with_lines object_items thread_items
 opening_printed = record { kept = opening_kept; begun = inl refl; reads = refl }
-
--- the lines of a trace that ended
-item_line : (known : KnownNames) (i : Item) → item_text known i ≡ printed_line known i ++ 10 ∷ []
-unfolding item_text
-item_line known i = line_is _ _
 
 -- the text of items is that of their lines
 pub text_is : (known : KnownNames) (items : List Item) → flat_map (item_text known) items ≡ text_of_lines (printed_lines known items)

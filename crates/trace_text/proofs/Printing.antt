@@ -5,7 +5,8 @@ use Rattle.std.proofs.lemmas.List.{drop_all}
 use Rattle.d3d_machine.specs.declared.calls.Call.{Call}
 use Rattle.trace_text.specs.declared.item.Item.TheVariants.{Declares, Starts, Calls}
 use Rattle.trace_text.specs.declared.object.Declared.{Declared}
-use Rattle.trace_text.specs.Items.{item_text, object_items, thread_items}
+use Rattle.trace_text.specs.Formed.{item_text}
+use Rattle.trace_text.specs.Items.{object_items, thread_items}
 use Rattle.trace_text.specs.Known.{KnownNames}
 use Rattle.trace_text.proofs.Knowing.{drops_some, drops_none, drops_none_next}
 

@@ -6,32 +6,25 @@ use Rattle.std.proofs.lemmas.List.Elements.{All-head, All-tail}
 use Rattle.std.proofs.lemmas.List.Folds.{list_all-append}
 use Rattle.std.proofs.lemmas.List.Sums.{sum_by-append, sum_by-cons}
 use Rattle.d3d_machine.specs.declared.calls.Call.{Call}
-use Rattle.d3d_machine.specs.declared.calls.Call.TheVariants as call
-use Rattle.d3d_machine.specs.declared.calls.Record.TheVariants.{Copy}
 use Rattle.d3d_machine.specs.World.{is_named}
 use Rattle.trace_words.specs.Lines.{pieces_of}
 use Rattle.trace_text.specs.declared.item.Item.{Item}
-use Rattle.trace_text.specs.declared.item.Item.TheVariants.{Header, Declares, Starts, Calls, Ends}
-use Rattle.trace_text.specs.declared.object.Declared.TheVariants as declared
+use Rattle.trace_text.specs.declared.item.Item.TheVariants.{Calls, Ends}
 use Rattle.trace_text.specs.declared.reading.Reading.{Reading}
-use Rattle.trace_text.specs.Forms.{form_of}
 use Rattle.trace_text.specs.Grammar.{text_of_lines}
-use Rattle.trace_text.specs.Items.{item_parts, call_parts}
 use Rattle.trace_text.specs.Known.{KnownNames, known_names}
 use Rattle.trace_text.specs.Reading.{with_item}
 use Rattle.trace_text.specs.Scripts.{lists_of_call, calls_in_all, lists_in_all, is_call_too_many, with_call}
-use Rattle.trace_text.specs.Shapes.{made}
 use Rattle.trace_text.specs.Sound.{is_sound_call, IsSound}
 use Rattle.trace_text.specs.Values.{Value, value_in, with_lines}
 use Rattle.trace_text.specs.WorldOf.{objects_of, world_of_value}
-use Rattle.trace_text.proofs.FormsBack.{Fits, form_plain, form_taken}
+use Rattle.trace_text.proofs.Fitting.{Fits, printed_line, item_bytes, item_taken}
 use Rattle.trace_text.proofs.Grammar.{pieces_more}
 use Rattle.trace_text.proofs.NamesBack.{AreNamed}
 use Rattle.trace_text.proofs.Naming.{names_in}
-use Rattle.trace_text.proofs.PrintedForms.{known_in}
-use Rattle.trace_text.proofs.PrintedItems.{printed_line, printed_lines}
-use Rattle.trace_text.proofs.SoundCalls.{call_fits}
-use Rattle.trace_text.proofs.SoundItems.{IsOpen, end_fits}
+use Rattle.trace_text.proofs.PrintedItems.{printed_lines}
+use Rattle.trace_text.proofs.Opening.{IsOpen, end_fits, call_fits}
+use Rattle.trace_text.proofs.Sound.{known_in}
 use Rattle.trace_text.proofs.Written.{cons_read}
 
 -- no line of a text of lines is too long
@@ -45,51 +38,28 @@ pub record Reaches (r : Reading) (lines : List (List ℕ)) (v : Value) : Type 0 
   pub ended : reading.ended ≡ true
   pub says : value_in reading ≡ v
 
--- a line is what the form of its parts makes
-made_again : (i : Item) → made (form_of (item_parts i).0).shape (form_of (item_parts i).0).make (item_parts i).1 ≡ i
-made_again Header = refl
-made_again (Declares n (declared.Queue t)) = refl
-made_again (Declares n (declared.Fence v)) = refl
-made_again (Declares n (declared.Buffer h b)) = refl
-made_again (Declares n (declared.Allocator t)) = refl
-made_again (Declares n (declared.List t)) = refl
-made_again (Starts n) = refl
-made_again (Calls (call.Recording l (Copy d doff s soff n))) = refl
-made_again (Calls (call.Close l)) = refl
-made_again (Calls (call.Reset l a)) = refl
-made_again (Calls (call.Execute q ls)) = refl
-made_again (Calls (call.Signal q f v)) = refl
-made_again (Calls (call.HostSignal f v)) = refl
-made_again (Calls (call.HostWait f v)) = refl
-made_again (Calls (call.Value f)) = refl
-made_again (Calls (call.Write b o ws)) = refl
-made_again (Calls (call.Read b o n)) = refl
-made_again Ends = refl
-
 -- a line that may come next, and the lines behind it
-pub reach_item : (r : Reading) (known : KnownNames) (i : Item) (lines : List (List ℕ)) (v : Value) →
-    Fits r known (item_parts i).0 (item_parts i).1 → AreShort (printed_line known i ∷ lines) →
-    (AreShort lines → Reaches (with_item r i) lines v) → Reaches r (printed_line known i ∷ lines) v
+pub reach_item : (r : Reading) (known : KnownNames) (i : Item) (lines : List (List ℕ)) (v : Value) → Fits r known i →
+    AreShort (printed_line known i ∷ lines) → (AreShort lines → Reaches (with_item r i) lines v) → Reaches r (printed_line known i ∷ lines) v
 reach_item r known i lines v fits short more =
-    let k = (item_parts i).0 in
-    let parts = (item_parts i).1 in
     let IsShort : List ℕ → Type 0 = λ line. length line ≤ 4096 in
-    let all = subst (All IsShort) (pieces_more (printed_line known i) lines (form_plain r.names known k parts fits.parts)) short in
-    let taken = form_taken r known k parts fits (All-head IsShort (printed_line known i) (pieces_of (text_of_lines lines)) all) in
+    let all = subst (All IsShort) (pieces_more (printed_line known i) lines (item_bytes r.names known i fits.good)) short in
+    let taken = item_taken r known i fits (All-head IsShort (printed_line known i) (pieces_of (text_of_lines lines)) all) in
     let rest = more (All-tail IsShort (printed_line known i) (pieces_of (text_of_lines lines)) all) in
     record {
       reading = rest.reading;
-      reads = cons_read (printed_line known i) lines r (with_item r i) rest.reading (taken ∙ ap (λ j. Ok (with_item r j)) (made_again i)) rest.reads;
+      reads = cons_read (printed_line known i) lines r (with_item r i) rest.reading taken rest.reads;
       ended = rest.ended;
       says = rest.says;
     }
 
 -- the last line
-pub reach_end : (r : Reading) (known : KnownNames) (v : Value) → IsOpen r → value_in r ≡ v → AreShort (printed_lines known (Ends ∷ [])) →
-    Reaches r (printed_lines known (Ends ∷ [])) v
+pub reach_end : (r : Reading) (known : KnownNames) (v : Value) → IsOpen r → value_in r ≡ v →
+    AreShort (printed_lines known (Ends ∷ [])) → Reaches r (printed_lines known (Ends ∷ [])) v
 unfolding with_item with_lines
 reach_end r known v may says short =
-    reach_item r known Ends [] v (end_fits r known may) short (λ s. record { reading = with_item r Ends; reads = refl; ended = refl; says = says })
+    reach_item r known Ends [] v (end_fits r known may) short
+    (λ s. record { reading = with_item r Ends; reads = refl; ended = refl; says = says })
 
 -- a call in the midst of the only script passes what all calls pass
 script_pass : (p : Call → Bool) (ss : List (List Call)) (script cs : List Call) (c : Call) → ss ≡ (script ++ c ∷ cs) ∷ [] →
@@ -155,6 +125,5 @@ reach_calls v sound (c ∷ cs) script r at short =
     let room : is_call_too_many r.scripts c ≡ false =
     rw (at.before) (call_room v.scripts script cs c at.all sound.few_calls sound.few_lists) in
     let fits = call_fits r at.may (rw (at.before) refl) v.scripts c at.named good here room in
-    reach_item r known (Calls c) (printed_lines known (map Calls cs ++ Ends ∷ [])) v
-    (subst (λ names. Fits r names (call_parts c).0 (call_parts c).1) same fits) short
+    reach_item r known (Calls c) (printed_lines known (map Calls cs ++ Ends ∷ [])) v (subst (λ names. Fits r names (Calls c)) same fits) short
     (λ s. reach_calls v sound cs (script ++ c ∷ []) (with_item r (Calls c)) (call_in v script cs c r at) s)

@@ -1,30 +1,17 @@
--- What each part of a line says of its word.
-use Rattle.std.proofs.Common.{ℕ, zero, suc, ◌≡◌, ◌<◌, ◌≤◌, ◌^◌, ◌==◌, ◌&&◌, ◌∙◌, not, nat_le, nat_lt, Bool, true, false, List, [], ◌∷◌, length, get_or, decimal, codes, Option, Some, None, is_some, Result, Ok, Err, sym, refl, ap, subst, arith, if◌then◌else◌}
-use Rattle.std.specs.Char.{is_ascii_digit, digit_value}
-use Rattle.std.specs.List.{list_all, AllByRecursion}
+-- What names name: a new name, and the name of a thing.
+use Rattle.std.proofs.Common.{ℕ, zero, suc, ◌≡◌, ◌≤◌, ◌==◌, ◌&&◌, ◌∙◌, not, nat_le, Bool, true, false, List, length, slice_get, Option, Some, None, is_some, Result, Ok, Err, sym, refl, ap, arith, if◌then◌else◌}
 use Rattle.std.specs.Map.{lookup}
 use Rattle.std.specs.Str.{bytes_eq}
-use Rattle.std.specs.Str.Parse.{digits_value, AllDigits}
-use Rattle.std.proofs.lemmas.Bool.{and_parts, leb-true, ltb-true}
+use Rattle.std.proofs.lemmas.Bool.{and_parts, and_from, leb-true, le-leb}
 use Rattle.std.proofs.lemmas.Bool.Decides.{nat_tests}
-use Rattle.std.proofs.lemmas.Fmt.{decimal-digits_value}
-use Rattle.std.proofs.lemmas.List.{take_all}
 use Rattle.std.proofs.lemmas.Slice.Eq.{bytes_eq-Decides}
-use Rattle.std.proofs.lemmas.Str.Parse.{IsNumeralModel, numerals_by_value, tells_digits}
-use Rattle.dx_base.specs.declared.kinds.Home.{Home}
-use Rattle.dx_base.specs.declared.kinds.ListType.{ListType}
-use Rattle.trace_words.specs.Rows.{row_of}
-use Rattle.trace_words.specs.Words.{is_name, is_number, is_hex_digit, is_data_word, data_word_of}
-use Rattle.trace_words.proofs.Digits.{hex_fits, number_digits}
-use Rattle.trace_text.specs.declared.status.Cause.{Cause}
-use Rattle.trace_text.specs.declared.status.Cause.TheVariants as cause
-use Rattle.trace_text.specs.declared.things.Kind.{Kind}
-use Rattle.trace_text.specs.declared.things.Kind.TheVariants as kind
+use Rattle.trace_words.specs.Words.{is_name}
+use Rattle.line_forms.specs.declared.cause.Cause.TheVariants as cause
+use Rattle.line_forms.specs.declared.kind.Kind.{Kind}
+use Rattle.line_forms.specs.declared.kind.Kind.TheVariants as kind
 use Rattle.trace_text.specs.declared.things.Thing.{Thing}
-use Rattle.trace_text.specs.Causes.{wrapped}
-use Rattle.trace_text.specs.Items.{type_text, home_text}
-use Rattle.trace_text.specs.Parts.{Part, Value, version, name, queue, fence, resource, allocator, list, type, home, number, word, or_form, types, homes, version_of, type_in, home_in, number_of, word_of, queue_named, fence_named, resource_named, allocator_named, list_named, read_part}
-use Rattle.trace_text.specs.Sound.{is_direct, is_host_home}
+use Rattle.trace_text.specs.Names.{name_at}
+use Rattle.trace_text.specs.Sound.{is_fit_name}
 use Rattle.trace_text.specs.Things.{Names, kind_code, same_kind, numbered, thing_of, number_named, new_name}
 
 -- a name that is not declared yet
@@ -43,42 +30,12 @@ pub record IsNameOf (names : Names) (k : Kind) (i : ℕ) (w : List ℕ) : Type 0
   pub spelled : is_name w ≡ true
   pub short : length w ≤ 32
 
--- a number in decimal
-pub record Counts (n : ℕ) (w : List ℕ) : Type 0 where
-  pub small : n < 2 ^ 64
-  pub text : decimal n ≡ w
-  pub digits : list_all is_ascii_digit w ≡ true
-
--- a type of the text, and a place of buffers
-pub record IsType (t : ListType) (w : List ℕ) : Type 0 where
-  pub direct : is_direct t ≡ true
-  pub text : type_text t ≡ w
-
--- a place of buffers and its word
-pub record IsHome (h : Home) (w : List ℕ) : Type 0 where
-  pub host : is_host_home h ≡ true
-  pub text : home_text h ≡ w
-
--- what a part says
-abbrev pub Says : Names → (p : Part) → Value p → List ℕ → Type 0
-Says names version v w = codes "1" ≡ w
-Says names name n w = IsNew names n w
-Says names queue q w = IsNameOf names kind.Queue q.0 w
-Says names fence f w = IsNameOf names kind.Fence f.0 w
-Says names resource r w = IsNameOf names kind.Resource r.0 w
-Says names allocator a w = IsNameOf names kind.Allocator a.0 w
-Says names list l w = IsNameOf names kind.List l.0 w
-Says names type t w = IsType t w
-Says names home h w = IsHome h w
-Says names number n w = Counts n w
-Says names word n w = n < 2 ^ 32
-
 -- bytes that pass the test are the same
 pub bytes_same : (a b : List ℕ) → bytes_eq a b ≡ true → a ≡ b
 bytes_same a b e = (bytes_eq-Decides a b).0 e
 
 -- the tests of a name that is not declared yet
-new_says : (names : Names) (w n : List ℕ) → new_name names w ≡ Ok n → IsNew names n w
+pub new_says : (names : Names) (w n : List ℕ) → new_name names w ≡ Ok n → IsNew names n w
 unfolding new_name
 new_says names w n e = spelled (is_name w) refl e
   where
@@ -124,7 +81,7 @@ kinds_same a b e =
     sym (kind_back a) ∙ (ap kind_from codes_same ∙ kind_back b)
 
 -- a word that names a thing of that kind
-number_says : (k : Kind) (names : Names) (w : List ℕ) (i : ℕ) → number_named k names w ≡ Ok i → IsNameOf names k i w
+pub number_says : (k : Kind) (names : Names) (w : List ℕ) (i : ℕ) → number_named k names w ≡ Ok i → IsNameOf names k i w
 unfolding number_named thing_of
 number_says k names w i e = spelled (is_name w) refl e
   where
@@ -148,152 +105,66 @@ number_says k names w i e = spelled (is_name w) refl e
     spelled true s e = short (nat_le (length w) 32) s refl e
     spelled false s e = cc
 
--- the number of an id
-id_says : {A : Type 0} (make : ℕ → A) (back : A → ℕ) (k : Kind) (names : Names) (w : List ℕ) (v : A) → ((n : ℕ) → back (make n) ≡ n) →
-    wrapped make (number_named k names w) ≡ Ok v → IsNameOf names k (back v) w
-id_says make back k names w v same e = by_found (number_named k names w) refl e
+-- the tests of a name
+pub record IsFit (w : List ℕ) : Type 0 where
+  pub spelled : is_name w ≡ true
+  pub short : nat_le (length w) 32 ≡ true
+
+-- a name that is spelled well passes them
+pub fit_parts : (w : List ℕ) → is_fit_name w ≡ true → IsFit w
+fit_parts w fit = let both = and_parts (is_name w) (nat_le (length w) 32) fit in record { spelled = both.0; short = both.1 }
+
+-- a kind is itself
+pub kind_same : (k : Kind) → same_kind k k ≡ true
+kind_same kind.Queue = refl
+kind_same kind.Fence = refl
+kind_same kind.Resource = refl
+kind_same kind.Allocator = refl
+kind_same kind.List = refl
+kind_same kind.Thread = refl
+
+-- the name of a thing of a kind is read as its number
+pub number_back : (names : Names) (k : Kind) (i : ℕ) (w : List ℕ) → IsNameOf names k i w → number_named k names w ≡ Ok i
+unfolding number_named thing_of
+number_back names k i w is =
+    let short : nat_le (length w) 32 ≡ true = le-leb (length w) 32 is.short in
+    let same : same_kind k is.thing.kind ≡ true = rw (← is.kind_is) (kind_same k) in
+    rw (is.spelled, short, is.found, same) (ap Ok is.number_is)
+
+-- the name of a place
+pub name_there : (names : List (List ℕ)) (i : ℕ) (w : List ℕ) → slice_get names i ≡ Some w → name_at names i ≡ w
+name_there names i w at = rw (at, name_at) refl
+
+-- a name is spelled well and not declared yet
+abbrev pub is_new : Names → List ℕ → Bool
+is_new names m = is_fit_name m && not (is_some (lookup (bytes_eq m) names))
+
+-- it is read as itself
+pub new_back : (names : Names) (m : List ℕ) → is_new names m ≡ true → new_name names m ≡ Ok m
+unfolding new_name
+new_back names m h =
+    let both = and_parts (is_fit_name m) (not (is_some (lookup (bytes_eq m) names))) h in
+    let fit = fit_parts m both.0 in
+    rw (fit.spelled, fit.short, not_some (is_some (lookup (bytes_eq m) names)) both.1) refl
   where
-    by_found : (found : Result ℕ Cause) → number_named k names w ≡ found → wrapped make found ≡ Ok v → IsNameOf names k (back v) w
-    by_found (Ok n) is e = let made_is : make n ≡ v = cc in subst (λ i. IsNameOf names k i w) (sym (same n) ∙ ap back made_is) (number_says k names w n is)
-    by_found (Err c) is e = cc
+    not_some : (t : Bool) → not t ≡ true → t ≡ false
+    not_some true e = cc
+    not_some false e = refl
 
--- one decimal digit
-digit_below : (b : ℕ) → is_ascii_digit b ≡ true → digit_value b < 10
-digit_below b h = grind (arith, nat_tests)
+-- what is read as a new name is one
+pub new_read : (names : Names) (w m : List ℕ) → new_name names w ≡ Ok m → is_new names m ≡ true
+new_read names w m e =
+    let new = new_says names w m e in
+    let fit : is_fit_name w ≡ true = and_from (is_name w) (nat_le (length w) 32) new.spelled (le-leb (length w) 32 new.short) in
+    rw (new.same) (and_from (is_fit_name w) (not (is_some (lookup (bytes_eq w) names))) fit (rw (new.fresh) refl))
 
--- all decimal digits
-all_digits : (ds : List ℕ) → list_all is_ascii_digit ds ≡ true → AllDigits 10 ds
-all_digits [] h = tt
-all_digits (d ∷ ds) h =
-    let both = and_parts (is_ascii_digit d) (list_all is_ascii_digit ds) h in (digit_below d both.0, all_digits ds both.1)
-
--- the value of decimal digits
-numerals : IsNumeralModel (AllDigits 10) (digits_value 10)
-numerals = numerals_by_value (AllDigits 10) tells_digits
-
--- a number has a digit
-number_long : (w : List ℕ) → is_number w ≡ true → 0 < length w
-unfolding is_number
-number_long [] h = cc
-number_long (b ∷ bs) h = omega arith
-
--- a number that begins with 0 is 0
-no_zero : (w : List ℕ) → is_number w ≡ true → get_or w 0 0 ≡ 48 → length w ≡ 1
-unfolding is_number
-no_zero [] h e = cc
-no_zero (b ∷ []) h e = refl
-no_zero (b ∷ c ∷ bs) h e =
-    let both = and_parts (not (b == 48)) (list_all is_ascii_digit (b ∷ c ∷ bs)) h in grind (arith, nat_tests, both.0)
-
--- a number is read as the number that its digits write
-number_says_so : (w : List ℕ) (n : ℕ) → number_of w ≡ Ok n → Counts n w
-unfolding number_of
-number_says_so w n e = spelled (is_number w) refl e
+-- the same in facts
+pub new_facts : (names : Names) (m : List ℕ) → is_new names m ≡ true → IsNew names m m
+new_facts names m h =
+    let both = and_parts (is_fit_name m) (not (is_some (lookup (bytes_eq m) names))) h in
+    let fit = fit_parts m both.0 in
+    record { same = refl; spelled = fit.spelled; short = leb-true (length m) 32 fit.short; fresh = none (lookup (bytes_eq m) names) both.1 }
   where
-    small : (t : Bool) → is_number w ≡ true → nat_lt (digits_value 10 w) (2 ^ 64) ≡ t →
-        (if t then Ok (digits_value 10 w) else Err cause.Number) ≡ Ok n → Counts n w
-    small false s l e = cc
-    small true s l e =
-        let value : digits_value 10 w ≡ n = cc in
-        let below : digits_value 10 w < 2 ^ 64 = ltb-true (digits_value 10 w) (2 ^ 64) l in
-        let digits = number_digits w s in
-        record {
-          small = subst (λ m. m < 2 ^ 64) value below;
-          text = subst (λ m. decimal m ≡ w) value
-              (decimal-digits_value numerals w (all_digits w digits) (number_long w s) (no_zero w s) below);
-          digits = digits;
-        }
-
-    spelled : (t : Bool) → is_number w ≡ t →
-        (if t then (if nat_lt (digits_value 10 w) (2 ^ 64) then Ok (digits_value 10 w) else Err cause.Number) else Err cause.Form) ≡ Ok n → Counts n w
-    spelled true s e = small (nat_lt (digits_value 10 w) (2 ^ 64)) s refl e
-    spelled false s e = cc
-
--- a data word is below 2^32
-word_says : (w : List ℕ) (n : ℕ) → word_of w ≡ Ok n → n < 2 ^ 32
-unfolding word_of data_word_of is_data_word
-word_says w n e = spelled (nat_le 1 (length w) && (nat_le (length w) 8 && list_all is_hex_digit w)) refl e
-  where
-    spelled : (t : Bool) → (nat_le 1 (length w) && (nat_le (length w) 8 && list_all is_hex_digit w)) ≡ t →
-        or_form (if t then Some (digits_value 16 w) else None) ≡ Ok n → n < 2 ^ 32
-    spelled false s e = cc
-    spelled true s e =
-        let both = and_parts (nat_le 1 (length w)) (nat_le (length w) 8 && list_all is_hex_digit w) s in
-        let more = and_parts (nat_le (length w) 8) (list_all is_hex_digit w) both.1 in
-        let fits = hex_fits w (length w) more.1 (leb-true (length w) 8 more.0) in
-        let value : digits_value 16 w ≡ n = cc in
-        subst (λ m. m < 2 ^ 32) (ap (digits_value 16) (take_all (length w) w (omega arith)) ∙ value) fits
-
--- the words of a table, where each row has the word that its value is written as
-pub rows_say : {T : Type 0} (text : T → List ℕ) (rows : List (List ℕ × T)) → AllByRecursion (λ row. row.0 ≡ text row.1) rows →
-    (w : List ℕ) (x : T) → row_of rows w ≡ Some x → text x ≡ w
-unfolding row_of
-rows_say text [] all w x e = cc
-rows_say {T} text (row ∷ rows) all w x e = by_test (bytes_eq w row.0) refl (λ found. rows_say text rows all.1 w x found) e
-  where
-    by_test : (t : Bool) → bytes_eq w row.0 ≡ t → (row_of rows w ≡ Some x → text x ≡ w) →
-        (if t then Some row.1 else row_of rows w) ≡ Some x → text x ≡ w
-    by_test true is behind e =
-        let value : row.1 ≡ x = cc in
-        sym (ap text value) ∙ (sym all.0 ∙ sym (bytes_same w row.0 is))
-    by_test false is behind e = behind e
-
--- what was found
-or_form_ok : {A : Type 0} (found : Option A) (x : A) → or_form found ≡ Ok x → found ≡ Some x
-or_form_ok None x e = cc
-or_form_ok (Some y) x e = cc
-
--- what holds of each row holds of what is found
-rows_pass : {T : Type 0} (P : T → Type 0) (rows : List (List ℕ × T)) → AllByRecursion (λ row. P row.1) rows → (w : List ℕ) (x : T) →
-    row_of rows w ≡ Some x → P x
-unfolding row_of
-rows_pass P [] all w x e = cc
-rows_pass {T} P (row ∷ rows) all w x e = by_test (bytes_eq w row.0) (λ found. rows_pass P rows all.1 w x found) e
-  where
-    by_test : (t : Bool) → (row_of rows w ≡ Some x → P x) → (if t then Some row.1 else row_of rows w) ≡ Some x → P x
-    by_test true behind e = let value : row.1 ≡ x = cc in subst P value all.0
-    by_test false behind e = behind e
-
--- a type
-type_says : (w : List ℕ) (t : ListType) → type_in w ≡ Ok t → IsType t w
-unfolding type_in
-type_says w t e =
-    let found = or_form_ok (row_of types w) t e in
-    record {
-      direct = rows_pass (λ x. is_direct x ≡ true) types (refl, tt) w t found;
-      text = rows_say type_text types (refl, tt) w t found;
-    }
-
--- a place of buffers
-home_says : (w : List ℕ) (h : Home) → home_in w ≡ Ok h → IsHome h w
-unfolding home_in
-home_says w h e =
-    let found = or_form_ok (row_of homes w) h e in
-    record {
-      host = rows_pass (λ x. is_host_home x ≡ true) homes (refl, (refl, tt)) w h found;
-      text = rows_say home_text homes (refl, (refl, tt)) w h found;
-    }
-
--- the version
-version_says : (w : List ℕ) (v : Unit {0}) → version_of w ≡ Ok v → codes "1" ≡ w
-unfolding version_of
-version_says w v e = by_test (bytes_eq w (codes "1")) refl e
-  where
-    by_test : (t : Bool) → bytes_eq w (codes "1") ≡ t → (if t then Ok tt else Err cause.Form) ≡ Ok v → codes "1" ≡ w
-    by_test true is e = sym (bytes_same w (codes "1") is)
-    by_test false is e = cc
-
--- what a word that is read as a part says
-pub part_says : (names : Names) (p : Part) (w : List ℕ) (v : Value p) → read_part names p w ≡ Ok v → Says names p v w
-unfolding queue_named fence_named resource_named allocator_named list_named
-part_says names version w v e = version_says w v e
-part_says names name w v e = new_says names w v e
-part_says names queue w v e = id_says (λ n. record { 0 = n }) (λ q. q.0) kind.Queue names w v (λ n. refl) e
-part_says names fence w v e = id_says (λ n. record { 0 = n }) (λ q. q.0) kind.Fence names w v (λ n. refl) e
-part_says names resource w v e = id_says (λ n. record { 0 = n }) (λ q. q.0) kind.Resource names w v (λ n. refl) e
-part_says names allocator w v e = id_says (λ n. record { 0 = n }) (λ q. q.0) kind.Allocator names w v (λ n. refl) e
-part_says names list w v e = id_says (λ n. record { 0 = n }) (λ q. q.0) kind.List names w v (λ n. refl) e
-part_says names type w v e = type_says w v e
-part_says names home w v e = home_says w v e
-part_says names number w v e = number_says_so w v e
-part_says names word w v e = word_says w v e
+    none : (found : Option Thing) → not (is_some found) ≡ true → found ≡ None
+    none None e = refl
+    none (Some t) e = cc

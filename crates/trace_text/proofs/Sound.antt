@@ -1,49 +1,45 @@
 -- What is read is sound, line by line.
-use Rattle.std.proofs.Common.{ℕ, ◌≡◌, ◌<◌, ◌≤◌, ◌+◌, ◌^◌, ◌==◌, ◌&&◌, ◌||◌, ◌∙◌, nat_le, nat_lt, Bool, true, false, List, [], ◌∷◌, ◌++◌, length, map, Some, None, refl, sym, subst, arith, append-nil, append_assoc, if◌then◌else◌}
-use Rattle.std.specs.List.{list_all, AllByRecursion}
+use Rattle.std.proofs.Common.{ℕ, ◌≡◌, ◌<◌, ◌≤◌, ◌+◌, ◌==◌, ◌&&◌, ◌||◌, ◌∙◌, nat_le, nat_lt, Bool, true, false, List, [], ◌∷◌, ◌++◌, length, map, Some, None, Ok, Err, refl, sym, ap, subst, arith, append-nil, append_assoc, if◌then◌else◌}
+use Rattle.std.specs.List.{list_all}
 use Rattle.std.specs.Map.{lookup}
 use Rattle.std.specs.Str.{bytes_eq}
-use Rattle.std.proofs.lemmas.Bool.{and_from, or_parts, lt-ltb, le-leb, ltb-false, eqb-false}
+use Rattle.std.proofs.lemmas.Bool.{and_from, lt-ltb, le-leb, ltb-true, ltb-false, eqb-false}
 use Rattle.std.proofs.lemmas.Bool.Decides.{nat_tests}
 use Rattle.std.proofs.lemmas.List.{map_push, length-map}
 use Rattle.std.proofs.lemmas.Option.{slice_get_within}
-use Rattle.dx_base.specs.declared.ids.QueueId.{QueueId}
-use Rattle.dx_base.specs.declared.ids.FenceId.{FenceId}
-use Rattle.dx_base.specs.declared.ids.ResourceId.{ResourceId}
-use Rattle.dx_base.specs.declared.ids.AllocatorId.{AllocatorId}
-use Rattle.dx_base.specs.declared.ids.ListId.{ListId}
 use Rattle.d3d_machine.specs.declared.calls.Call.{Call}
-use Rattle.d3d_machine.specs.declared.calls.Call.TheVariants as call
-use Rattle.d3d_machine.specs.declared.calls.Record.TheVariants.{Copy}
 use Rattle.d3d_machine.specs.World.{is_named}
 use Rattle.indexmap.specs.IndexMap.{insert_entry}
 use Rattle.trace_words.specs.Words.{is_name}
+use Rattle.line_forms.specs.declared.cause.Cause.TheVariants as cause
+use Rattle.line_forms.specs.declared.kind.Kind.{Kind}
+use Rattle.line_forms.specs.declared.kind.Kind.TheVariants as kind
+use Rattle.line_forms.specs.Laws.{AreNamed as AreCalled}
+use Rattle.line_forms.specs.Reading.{read_row}
+use Rattle.line_forms.proofs.ShortLines.{AreShortNames, line_kept}
+use Rattle.line_forms.proofs.Tests.{pass, pass_one, sound_read, named_read, new_read}
+use Rattle.trace_text.specs.declared.form.Class.{Class}
+use Rattle.trace_text.specs.declared.form.Class.TheVariants as class
+use Rattle.trace_text.specs.declared.item.Item.{Item}
 use Rattle.trace_text.specs.declared.item.Item.TheVariants.{Header, Declares, Starts, Calls, Ends}
-use Rattle.trace_text.specs.declared.keyword.Class.{Class}
-use Rattle.trace_text.specs.declared.keyword.Keyword.{Keyword}
-use Rattle.trace_text.specs.declared.keyword.Keyword.TheVariants as keyword
 use Rattle.trace_text.specs.declared.object.Declared.{Declared}
-use Rattle.trace_text.specs.declared.object.Declared.TheVariants as declared
 use Rattle.trace_text.specs.declared.reading.Reading.{Reading}
-use Rattle.trace_text.specs.declared.status.Cause.TheVariants as cause
-use Rattle.trace_text.specs.declared.things.Kind.{Kind}
-use Rattle.trace_text.specs.declared.things.Kind.TheVariants as kind
 use Rattle.trace_text.specs.declared.things.Thing.{Thing}
-use Rattle.trace_text.specs.Forms.{form_of}
+use Rattle.trace_text.specs.Formed.{item_formed, item_words}
+use Rattle.trace_text.specs.Forms.{form_row}
 use Rattle.trace_text.specs.Kinds.{kind_of, count_of, next_thing, is_one_too_many}
-use Rattle.trace_text.specs.Known.{names_of_kind}
-use Rattle.trace_text.specs.Later.{is_later_kind, has_second, later_types}
-use Rattle.trace_text.specs.Parts.{queue, fence, resource, allocator, list}
-use Rattle.trace_text.specs.Reading.{class_of, is_misplaced, is_header, fault_of_place, is_over, with_item, has_queue, has_thread}
+use Rattle.trace_text.specs.Known.{KnownNames, names_of_kind, known_names, known_of}
+use Rattle.trace_text.specs.Later.{is_later}
+use Rattle.trace_text.specs.Names.{name_at}
+use Rattle.trace_text.specs.Reading.{is_second, is_misplaced, is_header, fault_of_place, is_over, with_item, has_queue, has_thread, object_named, naming_of}
 use Rattle.trace_text.specs.Scripts.{is_call_too_many}
-use Rattle.trace_text.specs.Shapes.{Values, made}
-use Rattle.trace_text.specs.Sound.{is_fit_name, is_wide, is_host_home, is_sound_object, is_sound_call, are_data_words, IsSound}
+use Rattle.trace_text.specs.Sound.{is_fit_name, is_sound_object, is_sound_call, IsSound}
 use Rattle.trace_text.specs.Things.{Names, same_kind}
 use Rattle.trace_text.specs.Values.{value_in}
 use Rattle.trace_text.specs.WorldOf.{world_of_value, objects_of}
 use Rattle.trace_text.proofs.Naming.{names_in, insert_new, not_any, names_count, ArePlaced, placed_object, placed_thread, object_things, thread_things, objects_push, threads_push, threads_call}
-use Rattle.trace_text.proofs.Said.{Said, AllSaid}
-use Rattle.trace_text.proofs.Says.{IsNew, IsNameOf, Counts}
+use Rattle.trace_text.proofs.Own.{item_news, object_class, item_class, is_timely, own, object_built, counts_in, named_same}
+use Rattle.trace_text.proofs.Says.{IsNew, IsNameOf, number_says, new_says, is_new, new_read as new_passes, new_facts, name_there}
 use Rattle.trace_text.proofs.SoundValues.{sound_object, sound_thread, sound_call}
 use Rattle.trace_text.proofs.SoundWorlds.{queues_are, fences_are, resources_are, allocators_are, lists_are}
 
@@ -127,7 +123,41 @@ kept_call r c kept some good names room = record {
   placed = kept.placed;
 }
 
--- an id that a word names is one of an object
+-- the names of what was read, by kind
+abbrev pub known_in : Reading → KnownNames
+known_in r = known_names (names_in r.names) r.declared
+
+-- the name of a thing is the word that named it, and a new name is its own word
+pub are_called : (names : Names) (ds : List Declared) → ArePlaced names ds → AreCalled (naming_of names) (known_of (known_names (names_in names) ds))
+are_called names ds placed = record { things = things; new = λ w m e. (new_says names w m e).same }
+  where
+    there : (k : Kind) (w : List ℕ) (i : ℕ) → same_kind k kind.Thread ≡ false → IsNameOf names k i w → name_at (names_of_kind k (names_in names) ds) i ≡ w
+    there k w i apart is = name_there (names_of_kind k (names_in names) ds) i w (placed k i w apart is)
+
+    things : (k : Kind) (w : List ℕ) (i : ℕ) → object_named names k w ≡ Ok i → known_of (known_names (names_in names) ds) k i ≡ w
+    things kind.Queue w i e = there kind.Queue w i refl (number_says kind.Queue names w i e)
+    things kind.Fence w i e = there kind.Fence w i refl (number_says kind.Fence names w i e)
+    things kind.Resource w i e = there kind.Resource w i refl (number_says kind.Resource names w i e)
+    things kind.Allocator w i e = there kind.Allocator w i refl (number_says kind.Allocator names w i e)
+    things kind.List w i e = there kind.List w i refl (number_says kind.List names w i e)
+    things kind.Thread w i e = cc
+
+-- names are spelled well, and short
+pub short_names : (names : Names) → AreShortNames (naming_of names)
+short_names names = record { things = things; new = λ w m e. ((new_says names w m e).spelled, (new_says names w m e).short) }
+  where
+    spelled : (k : Kind) (w : List ℕ) (i : ℕ) → IsNameOf names k i w → (is_name w ≡ true) × (length w ≤ 32)
+    spelled k w i is = (is.spelled, is.short)
+
+    things : (k : Kind) (w : List ℕ) (i : ℕ) → object_named names k w ≡ Ok i → (is_name w ≡ true) × (length w ≤ 32)
+    things kind.Queue w i e = spelled kind.Queue w i (number_says kind.Queue names w i e)
+    things kind.Fence w i e = spelled kind.Fence w i (number_says kind.Fence names w i e)
+    things kind.Resource w i e = spelled kind.Resource w i (number_says kind.Resource names w i e)
+    things kind.Allocator w i e = spelled kind.Allocator w i (number_says kind.Allocator names w i e)
+    things kind.List w i e = spelled kind.List w i (number_says kind.List names w i e)
+    things kind.Thread w i e = cc
+
+-- a number that a word names is one of an object
 module _ (r : Reading) (kept : IsKept r) where
   number_below : (k : Kind) (i : ℕ) (w : List ℕ) (most : ℕ) → same_kind k kind.Thread ≡ false → IsNameOf r.names k i w →
       most ≡ count_of k r.declared → nat_lt i most ≡ true
@@ -138,65 +168,42 @@ module _ (r : Reading) (kept : IsKept r) where
       let counts = names_count k (names_in r.names) r.declared (omega (arith, long)) in
       lt-ltb i most (omega (arith, within, counts, are))
 
-  -- the ids of queues, fences, resources, allocators and lists
-  queue_below : (q : QueueId) → Said r.names queue q → nat_lt q.0 (length (world_of_value (value_in r)).queues) ≡ true
-  queue_below q said = number_below kind.Queue q.0 said.0 (length (objects_of r.declared).queues) refl said.1 (queues_are r.declared)
-
-  fence_below : (f : FenceId) → Said r.names fence f → nat_lt f.0 (length (world_of_value (value_in r)).fences) ≡ true
-  fence_below f said = number_below kind.Fence f.0 said.0 (length (objects_of r.declared).fences) refl said.1 (fences_are r.declared)
-
-  resource_below : (b : ResourceId) → Said r.names resource b → nat_lt b.0 (length (world_of_value (value_in r)).resources) ≡ true
-  resource_below b said =
-      number_below kind.Resource b.0 said.0 (length (objects_of r.declared).resources) refl said.1 (resources_are r.declared)
-
-  allocator_below : (a : AllocatorId) → Said r.names allocator a → nat_lt a.0 (length (world_of_value (value_in r)).allocators) ≡ true
-  allocator_below a said =
-      number_below kind.Allocator a.0 said.0 (length (objects_of r.declared).allocators) refl said.1 (allocators_are r.declared)
-
-  list_below : (l : ListId) → Said r.names list l → nat_lt l.0 (length (world_of_value (value_in r)).lists) ≡ true
-  list_below l said = number_below kind.List l.0 said.0 (length (objects_of r.declared).lists) refl said.1 (lists_are r.declared)
-
-  -- the lists that are executed
-  lists_below : (ls : List ListId) → AllByRecursion (λ l. Said r.names list l) ls →
-      list_all (λ (l : ListId). nat_lt l.0 (length (world_of_value (value_in r)).lists)) ls ≡ true
-  lists_below [] said = refl
-  lists_below (l ∷ ls) said =
-      and_from (nat_lt l.0 (length (world_of_value (value_in r)).lists))
-      (list_all (λ (l : ListId). nat_lt l.0 (length (world_of_value (value_in r)).lists)) ls) (list_below l said.0) (lists_below ls said.1)
-
--- a number that is read is of 64 bits
-wide : (n : ℕ) (w : List ℕ) → Counts n w → is_wide n ≡ true
-wide n w counts = lt-ltb n (2 ^ 64) counts.small
-
--- data words are of 32 bits
-words_small : (ws : List ℕ) → AllByRecursion (λ n. n < 2 ^ 32) ws → list_all (λ n. nat_lt n (2 ^ 32)) ws ≡ true
-words_small [] all = refl
-words_small (n ∷ ws) all = and_from (nat_lt n (2 ^ 32)) (list_all (λ n. nat_lt n (2 ^ 32)) ws) (lt-ltb n (2 ^ 32) all.0) (words_small ws all.1)
-
--- 1 to 256 data words
-data_words : (ws : List ℕ) → 1 ≤ length ws → length ws ≤ 256 → AllByRecursion (λ n. n < 2 ^ 32) ws → are_data_words ws ≡ true
-data_words ws some few small =
-    and_from (nat_le 1 (length ws)) (nat_le (length ws) 256 && list_all (λ n. nat_lt n (2 ^ 32)) ws) (le-leb 1 (length ws) some)
-    (and_from (nat_le (length ws) 256) (list_all (λ n. nat_lt n (2 ^ 32)) ws) (le-leb (length ws) 256 few) (words_small ws small))
+  all_below : (k : Kind) (w : List ℕ) (i : ℕ) → object_named r.names k w ≡ Ok i → nat_lt i (counts_in (world_of_value (value_in r)) k) ≡ true
+  all_below kind.Queue w i e = number_below kind.Queue i w (length (objects_of r.declared).queues) refl (number_says kind.Queue r.names w i e) (queues_are r.declared)
+  all_below kind.Fence w i e = number_below kind.Fence i w (length (objects_of r.declared).fences) refl (number_says kind.Fence r.names w i e) (fences_are r.declared)
+  all_below kind.Resource w i e =
+      number_below kind.Resource i w (length (objects_of r.declared).resources) refl (number_says kind.Resource r.names w i e) (resources_are r.declared)
+  all_below kind.Allocator w i e =
+      number_below kind.Allocator i w (length (objects_of r.declared).allocators) refl (number_says kind.Allocator r.names w i e) (allocators_are r.declared)
+  all_below kind.List w i e = number_below kind.List i w (length (objects_of r.declared).lists) refl (number_says kind.List r.names w i e) (lists_are r.declared)
+  all_below kind.Thread w i e = cc
 
 -- where a line may stand
 pub record Stands (r : Reading) (c : Class) : Type 0 where
+  pub first : is_second r c ≡ false
   pub placed : is_misplaced r c ≡ false
   pub begun : (r.begun || is_header c) ≡ true
 
 -- a line that has no fault of place stands where it may
 pub stands : (r : Reading) (c : Class) → fault_of_place r c ≡ None → Stands r c
 unfolding fault_of_place
-stands r c e = by_place (is_misplaced r c) refl e
+stands r c e = by_second (is_second r c) refl e
   where
-    by_start : (t : Bool) → is_misplaced r c ≡ false → (r.begun || is_header c) ≡ t → (if t then None else Some cause.Form) ≡ None → Stands r c
-    by_start true at is e = record { placed = at; begun = is }
-    by_start false at is e = cc
+    by_start : (t : Bool) → is_second r c ≡ false → is_misplaced r c ≡ false → (r.begun || is_header c) ≡ t →
+        (if t then None else Some cause.Form) ≡ None → Stands r c
+    by_start true first at is e = record { first = first; placed = at; begun = is }
+    by_start false first at is e = cc
 
-    by_place : (t : Bool) → is_misplaced r c ≡ t →
+    by_place : (t : Bool) → is_second r c ≡ false → is_misplaced r c ≡ t →
         (if t then Some cause.Order else (if r.begun || is_header c then None else Some cause.Form)) ≡ None → Stands r c
-    by_place true is e = cc
-    by_place false is e = by_start (r.begun || is_header c) is refl e
+    by_place true first is e = cc
+    by_place false first is e = by_start (r.begun || is_header c) first is refl e
+
+    by_second : (t : Bool) → is_second r c ≡ t →
+        (if t then Some cause.Later else (if is_misplaced r c then Some cause.Order else (if r.begun || is_header c then None else Some cause.Form))) ≡ None →
+        Stands r c
+    by_second true is e = cc
+    by_second false is e = by_place (is_misplaced r c) is refl e
 
 -- a declaration stands before the threads, a call behind one
 pub no_threads : (r : Reading) → nat_lt 0 (length r.scripts) ≡ false → length r.scripts ≡ 0
@@ -206,87 +213,70 @@ no_threads r is = omega (arith, ltb-false 0 (length r.scripts) is)
 pub some_threads : (r : Reading) → (length r.scripts == 0) ≡ false → 0 < length r.scripts
 some_threads r is = let none = eqb-false (length r.scripts) 0 is in grind (arith, nat_tests)
 
--- what a line of a form adds is kept
-module _ (r : Reading) (kept : IsKept r) where
-  abbrev pub KeepsForm : Keyword → Type 0
-  KeepsForm k =
-      (ws : List (List ℕ)) (v : Values (form_of k).shape) → AllSaid r.names (form_of k).shape v →
-      is_later_kind (has_queue r) (has_thread r) k ws ≡ false → is_misplaced r (class_of k) ≡ false →
-      is_over r (made (form_of k).shape (form_of k).make v) ≡ false → IsKept (with_item r (made (form_of k).shape (form_of k).make v))
+-- an object stands before the threads, and a queue is the first
+pub object_place : (r : Reading) (d : Declared) → is_misplaced r (object_class d) ≡ nat_lt 0 (length r.scripts)
+object_place r d = by_test (same_kind kind.Queue (kind_of d))
+  where
+    by_test : (t : Bool) → is_misplaced r (if t then class.Queue else class.Declaration) ≡ nat_lt 0 (length r.scripts)
+    by_test true = refl
+    by_test false = refl
 
-  -- the first line
+object_first : (r : Reading) (d : Declared) → is_second r (object_class d) ≡ false → same_kind kind.Queue (kind_of d) ≡ true → count_of kind.Queue r.declared ≡ 0
+object_first r d first is = by_test (same_kind kind.Queue (kind_of d)) is first
+  where
+    by_test : (t : Bool) → t ≡ true → is_second r (if t then class.Queue else class.Declaration) ≡ false → count_of kind.Queue r.declared ≡ 0
+    by_test true is e = omega (arith, ltb-false 0 (count_of kind.Queue r.declared) e)
+    by_test false is e = cc
+
+-- what a line adds is kept
+module _ (r : Reading) (kept : IsKept r) where
+  -- the first line and the last
   kept_begun : IsKept (with_item r Header)
   unfolding with_item
   kept_begun = record { sound = kept.sound; things = kept.things; placed = kept.placed }
 
-  -- the last line
   kept_ended : IsKept (with_item r Ends)
   unfolding with_item
   kept_ended = record { sound = kept.sound; things = kept.things; placed = kept.placed }
 
-  -- a line that declares an object
-  declares : (n w : List ℕ) (d : Declared) → IsNew r.names n w → is_sound_object d ≡ true → nat_lt 0 (length r.scripts) ≡ false →
-      is_over r (Declares n d) ≡ false → (same_kind kind.Queue (kind_of d) ≡ true → count_of kind.Queue r.declared ≡ 0) →
-      IsKept (with_item r (Declares n d))
-  unfolding is_over
-  declares n w d new good place over queues = kept_object r n w d kept new (no_threads r place) good over queues
+  -- an item whose line was read
+  module _ (ws : List (List ℕ)) (in_time : is_later ws ≡ false) where
+    -- an item's new name is new
+    pub news_pass : (i : Item) → read_row (naming_of r.names) (form_row (item_formed i).form) ws ≡ Ok (item_formed i).line →
+        pass (item_news (is_new r.names) i) ≡ true
+    news_pass i reads =
+        subst (λ bs. pass bs ≡ true) ((own i).news (is_new r.names))
+        (new_read (naming_of r.names) (is_new r.names) (λ w m e. new_passes r.names w m e) (form_row (item_formed i).form) ws (item_formed i).line reads)
 
-  -- a line of a call
-  calls : (c : Call) → is_sound_call c ≡ true → is_named (world_of_value (value_in r)) c ≡ true → (length r.scripts == 0) ≡ false →
-      is_over r (Calls c) ≡ false → IsKept (with_item r (Calls c))
-  unfolding is_over
-  calls c good names place over = kept_call r c kept (some_threads r place) good names over
+    -- its types and places do not come later
+    pub read_timely : (i : Item) → read_row (naming_of r.names) (form_row (item_formed i).form) ws ≡ Ok (item_formed i).line → is_timely i ≡ true
+    read_timely Header reads = refl
+    read_timely (Declares n d) reads =
+        let i = Declares n d in
+        let same : item_words (known_in r) i ≡ ws =
+        line_kept (naming_of r.names) (known_of (known_in r)) (are_called r.names r.declared kept.placed) (form_row (item_formed i).form) (item_formed i).line ws
+        ((own i).kept refl) reads in
+        object_built (known_in r) n d (ap is_later same ∙ in_time)
+        (sound_read (naming_of r.names) (form_row (item_formed i).form) ws (item_formed i).line reads)
+    read_timely (Starts n) reads = refl
+    read_timely (Calls c) reads = refl
+    read_timely Ends reads = refl
 
-  -- each form
-  pub kept_form : (k : Keyword) → KeepsForm k
-  kept_form keyword.D3dtrace ws v said time place over = kept_begun
-  kept_form keyword.Queue ws v said time place over =
-      let first = or_parts (has_queue r) (has_second later_types ws) time in
-      declares v.0 said.0.0 (declared.Queue v.1) said.0.1 said.1.1.direct place over
-      (λ is. omega (arith, ltb-false 0 (count_of kind.Queue r.declared) first.0))
-  kept_form keyword.Fence ws v said time place over =
-      declares v.0 said.0.0 (declared.Fence v.1) said.0.1 (wide v.1 said.1.0 said.1.1) place over (λ is. cc)
-  kept_form keyword.Buffer ws v said time place over =
-      declares v.0 said.0.0 (declared.Buffer v.1 v.2) said.0.1
-      (and_from (is_host_home v.1) (is_wide v.2) said.1.1.host (wide v.2 said.2.0 said.2.1)) place over (λ is. cc)
-  kept_form keyword.Allocator ws v said time place over =
-      declares v.0 said.0.0 (declared.Allocator v.1) said.0.1 said.1.1.direct place over (λ is. cc)
-  kept_form keyword.List ws v said time place over =
-      declares v.0 said.0.0 (declared.List v.1) said.0.1 said.1.1.direct place over (λ is. cc)
-  kept_form keyword.Thread ws v said time place over = kept_thread r v said.0 kept said.1 (no_threads r time)
-  kept_form keyword.Write ws v said time place over =
-      calls (call.Write v.0 v.1 v.2)
-      (and_from (is_wide v.1) (are_data_words v.2) (wide v.1 said.1.0 said.1.1) (data_words v.2 said.2.0 said.2.1 said.2.2))
-      (resource_below r kept v.0 said.0) place over
-  kept_form keyword.Reset ws v said time place over =
-      calls (call.Reset v.0 v.1) refl
-      (and_from (nat_lt v.0.0 (length (world_of_value (value_in r)).lists)) (nat_lt v.1.0 (length (world_of_value (value_in r)).allocators))
-      (list_below r kept v.0 said.0) (allocator_below r kept v.1 said.1)) place over
-  kept_form keyword.Copy ws v said time place over =
-      calls (call.Recording v.0 (Copy v.1 v.2 v.3 v.4 v.5))
-      (and_from (is_wide v.2) (is_wide v.4 && is_wide v.5) (wide v.2 said.2.0 said.2.1)
-      (and_from (is_wide v.4) (is_wide v.5) (wide v.4 said.4.0 said.4.1) (wide v.5 said.5.0 said.5.1)))
-      (and_from (nat_lt v.0.0 (length (world_of_value (value_in r)).lists))
-      (nat_lt v.1.0 (length (world_of_value (value_in r)).resources) && nat_lt v.3.0 (length (world_of_value (value_in r)).resources))
-      (list_below r kept v.0 said.0)
-      (and_from (nat_lt v.1.0 (length (world_of_value (value_in r)).resources)) (nat_lt v.3.0 (length (world_of_value (value_in r)).resources))
-      (resource_below r kept v.1 said.1) (resource_below r kept v.3 said.3))) place over
-  kept_form keyword.Close ws v said time place over = calls (call.Close v) refl (list_below r kept v said) place over
-  kept_form keyword.Execute ws v said time place over =
-      calls (call.Execute v.0 v.1) refl
-      (and_from (nat_lt v.0.0 (length (world_of_value (value_in r)).queues))
-      (list_all (λ (l : ListId). nat_lt l.0 (length (world_of_value (value_in r)).lists)) v.1)
-      (queue_below r kept v.0 said.0) (lists_below r kept v.1 said.1)) place over
-  kept_form keyword.Signal ws v said time place over =
-      calls (call.Signal v.0 v.1 v.2) (wide v.2 said.2.0 said.2.1)
-      (and_from (nat_lt v.0.0 (length (world_of_value (value_in r)).queues)) (nat_lt v.1.0 (length (world_of_value (value_in r)).fences))
-      (queue_below r kept v.0 said.0) (fence_below r kept v.1 said.1)) place over
-  kept_form keyword.HostSignal ws v said time place over =
-      calls (call.HostSignal v.0 v.1) (wide v.1 said.1.0 said.1.1) (fence_below r kept v.0 said.0) place over
-  kept_form keyword.HostWait ws v said time place over =
-      calls (call.HostWait v.0 v.1) (wide v.1 said.1.0 said.1.1) (fence_below r kept v.0 said.0) place over
-  kept_form keyword.Value ws v said time place over = calls (call.Value v) refl (fence_below r kept v said) place over
-  kept_form keyword.Read ws v said time place over =
-      calls (call.Read v.0 v.1 v.2) (and_from (is_wide v.1) (is_wide v.2) (wide v.1 said.1.0 said.1.1) (wide v.2 said.2.0 said.2.1))
-      (resource_below r kept v.0 said.0) place over
-  kept_form keyword.End ws v said time place over = kept_ended
+    pub kept_item : (i : Item) → read_row (naming_of r.names) (form_row (item_formed i).form) ws ≡ Ok (item_formed i).line → Stands r (item_class i) →
+        is_over r i ≡ false → IsKept (with_item r i)
+    unfolding is_over
+    kept_item Header reads at within = kept_begun
+    kept_item (Declares n d) reads at within =
+        let new = new_facts r.names n (pass_one (is_new r.names n) (news_pass (Declares n d) reads)) in
+        kept_object r n n d kept new (no_threads r (sym (object_place r d) ∙ at.placed)) (read_timely (Declares n d) reads) within
+        (λ is. object_first r d at.first is)
+    kept_item (Starts n) reads at within =
+        let new = new_facts r.names n (pass_one (is_new r.names n) (news_pass (Starts n) reads)) in kept_thread r n n kept new (no_threads r at.first)
+    kept_item (Calls c) reads at within =
+        let w = world_of_value (value_in r) in
+        let row = form_row (item_formed (Calls c)).form in
+        let good = sound_read (naming_of r.names) row ws (item_formed (Calls c)).line reads in
+        let names = named_read (naming_of r.names) (counts_in w) (known_of (known_in r)) (are_called r.names r.declared kept.placed) (all_below r kept) row ws
+        (item_formed (Calls c)).line reads in
+        kept_call r c kept (some_threads r at.placed) good (named_same w (known_of (known_in r)) c ∙ names) within
+    kept_item Ends reads at within = kept_ended

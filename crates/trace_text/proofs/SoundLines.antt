@@ -1,5 +1,5 @@
 -- What lines write is sound.
-use Rattle.std.proofs.Common.{ℕ, ◌≡◌, ◌⊎◌, inl, inr, false, List, [], ◌∷◌, Result, Ok, Err, refl, sym, subst, arith, lit≤}
+use Rattle.std.proofs.Common.{ℕ, ◌≡◌, ◌⊎◌, inl, inr, List, [], ◌∷◌, Result, Ok, Err, None, ◌∙◌, ap, refl, sym, subst, arith, lit≤}
 use Rattle.std.proofs.Math.Logic.{∥∥₁_elim}
 use Rattle.std.specs.List.{IsDistinct}
 use Rattle.std.proofs.Props.{props}
@@ -8,22 +8,19 @@ use Rattle.d3d_machine.specs.declared.world.World.{World}
 use Rattle.d3d_machine.specs.World.{IsWorld}
 use Rattle.trace_text.specs.declared.object.Declared.{Declared}
 use Rattle.trace_text.specs.declared.reading.Reading.{Reading}
-use Rattle.trace_text.specs.declared.status.Cause.{Cause}
+use Rattle.line_forms.specs.declared.cause.Cause.{Cause}
 use Rattle.trace_text.specs.declared.trace.Trace.{Trace}
-use Rattle.trace_text.specs.Forms.{form_of}
-use Rattle.trace_text.specs.Reading.{opening, and_then, is_over, with_item, class_of}
+use Rattle.trace_text.specs.Forms.{class_of}
+use Rattle.trace_text.specs.Reading.{opening, and_then, fault_of_place}
 use Rattle.trace_text.specs.Seen.{seen}
-use Rattle.trace_text.specs.Shapes.{made, read_form, read_parts}
 use Rattle.trace_text.specs.Sound.{IsSound}
 use Rattle.trace_text.specs.Texts.{with_line}
 use Rattle.trace_text.specs.Values.{Value, with_lines, IsWritten}
 use Rattle.trace_text.specs.WorldOf.{objects_of, world_of_value}
-use Rattle.trace_text.proofs.Meaning.{made_of, parts_mean}
-use Rattle.trace_text.proofs.Said.{all_said}
-use Rattle.trace_text.proofs.Says.{Says, part_says}
-use Rattle.trace_text.proofs.Sound.{IsKept, stands, kept_form}
+use Rattle.trace_text.proofs.Own.{item_class, own}
+use Rattle.trace_text.proofs.Sound.{IsKept, stands, kept_item}
 use Rattle.trace_text.proofs.SoundWorlds.{sound_world}
-use Rattle.trace_text.proofs.Taking.{Takes, line_passes}
+use Rattle.trace_text.proofs.Taking.{Takes, line_passes, item_reads}
 
 -- lines that are read one by one keep what each line keeps
 pub lines_keep : (P : Reading → Type 0) → ((r s : Reading) (line : List ℕ) → P r → with_line r line ≡ Ok s → P s) →
@@ -39,16 +36,12 @@ lines_keep P keeps (line ∷ lines) r s p e = by_line (with_line r line) refl (�
 
 -- a line of words keeps what is sound
 words_kept : (r s : Reading) (line : List ℕ) → IsKept r → Takes r line s → IsKept s
-unfolding read_form
 words_kept r s line kept t =
     let taken = t.others in
-    let f = form_of t.keyword in
-    let m = made_of (made f.shape f.make) (read_parts r.names f.shape t.ws) taken.item taken.means in
-    let said = all_said r.names f.shape m.from t.ws (parts_mean r.names (Says r.names) (part_says r.names) f.shape t.ws m.from m.read) in
-    let within = subst (λ i. is_over r i ≡ false) (sym m.makes) taken.within in
-    let place = stands r (class_of t.keyword) taken.in_place in
-    let more = kept_form r kept t.keyword t.ws m.from said taken.in_time place.placed within in
-    subst IsKept taken.becomes (subst (λ i. IsKept (with_item r i)) m.makes more)
+    let read = item_reads r.names taken.form t.ws taken.item taken.means in
+    let class_is : class_of taken.form ≡ item_class taken.item = ap class_of read.form_is ∙ (own taken.item).class_is in
+    let place = stands r (item_class taken.item) (subst (λ c. fault_of_place r c ≡ None) class_is taken.in_place) in
+    subst IsKept taken.becomes (kept_item r kept t.ws taken.in_time taken.item read.reads place taken.within)
 
 -- a line keeps what is sound
 pub line_kept : (r s : Reading) (line : List ℕ) → IsKept r → with_line r line ≡ Ok s → IsKept s

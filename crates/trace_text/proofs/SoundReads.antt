@@ -11,8 +11,8 @@ use Rattle.trace_words.specs.Lines.{pieces_of}
 use Rattle.trace_text.specs.declared.item.Item.TheVariants.{Header, Declares, Starts, Calls, Ends}
 use Rattle.trace_text.specs.declared.object.Declared.{Declared}
 use Rattle.trace_text.specs.declared.reading.Reading.{Reading}
-use Rattle.trace_text.specs.declared.things.Kind.{Kind}
-use Rattle.trace_text.specs.declared.things.Kind.TheVariants as kind
+use Rattle.line_forms.specs.declared.kind.Kind.{Kind}
+use Rattle.line_forms.specs.declared.kind.Kind.TheVariants as kind
 use Rattle.trace_text.specs.declared.things.Thing.{Thing}
 use Rattle.trace_text.specs.Items.{items_of, object_items, thread_items, trace_text}
 use Rattle.trace_text.specs.Kinds.{kind_of, count_of, most_of, words_of_object, words_of_all, next_thing, is_one_too_many}
@@ -23,11 +23,12 @@ use Rattle.trace_text.specs.Sound.{is_fit_name, is_sound_object, IsSound}
 use Rattle.trace_text.specs.Things.{same_kind}
 use Rattle.trace_text.specs.Values.{Value}
 use Rattle.trace_text.proofs.NamesBack.{AreNamed, fresh_among, named_object, named_thread}
-use Rattle.trace_text.proofs.Naming.{names_in, insert_new, kind_same}
+use Rattle.trace_text.proofs.Naming.{names_in, insert_new}
+use Rattle.trace_text.proofs.Says.{kind_same}
 use Rattle.trace_text.proofs.PrintedItems.{printed_lines}
 use Rattle.trace_text.proofs.PrintedTraces.{text_is, WritesItself}
 use Rattle.trace_text.proofs.Reaching.{AreShort, Reaches, reach_item, reach_end, InCalls, reach_calls}
-use Rattle.trace_text.proofs.SoundItems.{IsOpen, header_fits, CanName, object_fits, thread_fits}
+use Rattle.trace_text.proofs.Opening.{IsOpen, header_fits, CanName, object_fits, thread_fits}
 
 -- what all items pass, one in their midst passes
 one_passes : {A : Type 0} (p : A → Bool) (xs ys all : List A) (x : A) → xs ++ x ∷ ys ≡ all → list_all p all ≡ true → p x ≡ true

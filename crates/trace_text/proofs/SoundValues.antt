@@ -11,8 +11,8 @@ use Rattle.std.proofs.lemmas.Map.Keys.{IsDistinct-push}
 use Rattle.d3d_machine.specs.declared.calls.Call.{Call}
 use Rattle.d3d_machine.specs.World.{is_named, are_named}
 use Rattle.trace_text.specs.declared.object.Declared.{Declared}
-use Rattle.trace_text.specs.declared.things.Kind.{Kind}
-use Rattle.trace_text.specs.declared.things.Kind.TheVariants as kind
+use Rattle.line_forms.specs.declared.kind.Kind.{Kind}
+use Rattle.line_forms.specs.declared.kind.Kind.TheVariants as kind
 use Rattle.trace_text.specs.Kinds.{kind_of, count_of, most_of, words_of_object, words_of_all, is_one_too_many}
 use Rattle.trace_text.specs.Scripts.{lists_of_call, calls_in_all, lists_in_all, is_call_too_many, with_call}
 use Rattle.trace_text.specs.Sound.{is_fit_name, is_sound_object, is_sound_call, IsSound}

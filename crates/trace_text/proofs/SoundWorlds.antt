@@ -9,8 +9,8 @@ use Rattle.d3d_machine.specs.declared.world.Resource.TheVariants.{Buffer as buff
 use Rattle.d3d_machine.specs.World.{is_small_resource, IsWorld}
 use Rattle.trace_text.specs.declared.object.Declared.{Declared}
 use Rattle.trace_text.specs.declared.object.Declared.TheVariants.{Queue, Fence, Buffer, Allocator, List as list}
-use Rattle.trace_text.specs.declared.things.Kind.{Kind}
-use Rattle.trace_text.specs.declared.things.Kind.TheVariants as kind
+use Rattle.line_forms.specs.declared.kind.Kind.{Kind}
+use Rattle.line_forms.specs.declared.kind.Kind.TheVariants as kind
 use Rattle.trace_text.specs.Kinds.{kind_of, count_of, is_refused_size}
 use Rattle.trace_text.specs.Sound.{IsSound}
 use Rattle.trace_text.specs.Things.{same_kind}

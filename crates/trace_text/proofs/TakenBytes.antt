@@ -10,8 +10,8 @@ use Rattle.std.proofs.lemmas.List.Splits.{slice_split_at, slice_split_none}
 use Rattle.trace_words.specs.Cut.{CutsOff}
 use Rattle.trace_words.specs.Lines.{pieces_of}
 use Rattle.trace_text.specs.declared.reading.Reading.{Reading}
-use Rattle.trace_text.specs.declared.status.Cause.{Cause}
-use Rattle.trace_text.specs.declared.status.Cause.TheVariants as cause
+use Rattle.line_forms.specs.declared.cause.Cause.{Cause}
+use Rattle.line_forms.specs.declared.cause.Cause.TheVariants as cause
 use Rattle.trace_text.specs.Reading.{opening}
 use Rattle.trace_text.specs.Texts.{with_line, with_last, sized, at_line, pieces_from, reading_of}
 use Rattle.trace_text.specs.Values.{valued, value_of}

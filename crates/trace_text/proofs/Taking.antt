@@ -1,38 +1,65 @@
 -- What a line means that is taken.
-use Rattle.std.proofs.Common.{ℕ, ◌≡◌, ◌⊎◌, Bool, true, false, not, List, [], ◌∷◌, Option, Some, None, Result, Ok, Err, inl, inr, refl, ap, ◌∙◌, if◌then◌else◌}
+use Rattle.std.proofs.Common.{ℕ, ◌≡◌, ◌⊎◌, Bool, true, false, not, List, Option, Some, None, Result, Ok, Err, inl, inr, refl, sym, ap, subst, ◌∙◌, if◌then◌else◌}
 use Rattle.trace_words.specs.Lines.{words_of, is_plain}
-use Rattle.trace_words.specs.Rows.{row_of, is_among}
-use Rattle.trace_text.specs.declared.status.Cause.{Cause}
-use Rattle.trace_text.specs.declared.status.Cause.TheVariants as cause
+use Rattle.line_forms.specs.declared.cause.Cause.{Cause}
+use Rattle.line_forms.specs.declared.cause.Cause.TheVariants as cause
+use Rattle.line_forms.specs.declared.form.Line.{Line}
+use Rattle.line_forms.specs.Causes.{wrapped}
+use Rattle.line_forms.specs.Finding.{form_for}
+use Rattle.line_forms.specs.Reading.{read_row}
+use Rattle.line_forms.proofs.Good.{reads_again}
+use Rattle.line_forms.proofs.Results.{made_of}
+use Rattle.trace_text.specs.declared.form.Form.{Form}
 use Rattle.trace_text.specs.declared.item.Item.{Item}
-use Rattle.trace_text.specs.declared.keyword.Keyword.{Keyword}
 use Rattle.trace_text.specs.declared.reading.Reading.{Reading}
-use Rattle.trace_text.specs.Forms.{keywords, form_of}
-use Rattle.trace_text.specs.Later.{later_words, is_later_kind}
-use Rattle.trace_text.specs.Reading.{class_of, fault_of_place, placed_of, is_formless, is_over, with_item, taken_of, and_then, has_queue, has_thread, meant_of, with_form, with_first, with_words}
-use Rattle.trace_text.specs.Shapes.{read_form}
+use Rattle.trace_text.specs.Formed.{Formed, item_formed, made}
+use Rattle.trace_text.specs.Forms.{form_row, forms, class_of}
+use Rattle.trace_text.specs.Later.{is_later}
+use Rattle.trace_text.specs.Reading.{fault_of_place, placed_of, is_formless, is_over, with_item, taken_of, and_then, naming_of, read_item, meant_of, by_form, with_words}
 use Rattle.trace_text.specs.Texts.{is_skipped, with_line}
+use Rattle.trace_text.specs.Things.{Names}
+use Rattle.trace_text.proofs.Own.{own, own_line}
 
--- words behind a first word that are taken
-pub record TakesWords (r : Reading) (k : Keyword) (ws : List (List ℕ)) (s : Reading) : Type 0 where
+-- words that are read as an item's line, of which they have the form
+pub record IsRead (names : Names) (f : Form) (ws : List (List ℕ)) (i : Item) : Type 0 where
+  pub form_is : f ≡ (item_formed i).form
+  pub reads : read_row (naming_of names) (form_row (item_formed i).form) ws ≡ Ok (item_formed i).line
+
+pub item_reads : (names : Names) (f : Form) (ws : List (List ℕ)) (i : Item) → read_item names f ws ≡ Ok i → IsRead names f ws i
+unfolding read_item
+item_reads names f ws i e =
+    let m = made_of (made f) (read_row (naming_of names) (form_row f) ws) i e in
+    let shaped = reads_again.shaped (naming_of names) (form_row f) ws m.from m.read in
+    let formed_is : item_formed i ≡ record { form = f; line = m.from } =
+    ap item_formed (sym m.makes) ∙ (own_line f m.from ∙ ap (λ (x : Line). record { form = f; line = x }) shaped) in
+    let both = subst (λ (g : Formed). (f ≡ g.form) × (read_row (naming_of names) (form_row g.form) ws ≡ Ok g.line)) (sym formed_is) (refl, m.read) in
+    record { form_is = both.0; reads = both.1 }
+
+-- and back
+pub item_read_back : (names : Names) (ws : List (List ℕ)) (i : Item) →
+    read_row (naming_of names) (form_row (item_formed i).form) ws ≡ Ok (item_formed i).line → read_item names (item_formed i).form ws ≡ Ok i
+unfolding read_item
+item_read_back names ws i e = ap (wrapped (made (item_formed i).form)) e ∙ ap Ok (own i).makes
+
+-- words that are taken
+pub record TakesWords (r : Reading) (ws : List (List ℕ)) (s : Reading) : Type 0 where
+  pub form : Form
   pub item : Item
-  pub in_time : is_later_kind (has_queue r) (has_thread r) k ws ≡ false
-  pub in_place : fault_of_place r (class_of k) ≡ None
-  pub means : read_form r.names (form_of k) ws ≡ Ok item
+  pub in_time : is_later ws ≡ false
+  pub found : form_for form_row forms ws ≡ Some form
+  pub in_place : fault_of_place r (class_of form) ≡ None
+  pub means : read_item r.names form ws ≡ Ok item
   pub within : is_over r item ≡ false
   pub becomes : with_item r item ≡ s
 
 -- a line of words that is taken
 pub record Takes (r : Reading) (line : List ℕ) (s : Reading) : Type 0 where
-  pub word : List ℕ
   pub ws : List (List ℕ)
-  pub keyword : Keyword
   pub plain : is_plain line ≡ true
   pub open_yet : r.ended ≡ false
   pub spoken : is_skipped line ≡ false
-  pub words : words_of line ≡ word ∷ ws
-  pub first : row_of keywords word ≡ Some keyword
-  pub others : TakesWords r keyword ws s
+  pub words : words_of line ≡ ws
+  pub others : TakesWords r ws s
 
 -- a line that is taken: a comment, or one of words
 pub record Passes (r : Reading) (line : List ℕ) (s : Reading) : Type 0 where
@@ -41,65 +68,48 @@ pub record Passes (r : Reading) (line : List ℕ) (s : Reading) : Type 0 where
   pub either : (r ≡ s) ⊎ Takes r line s
 
 -- a line in its place, of a form and within the limits
-meant_by : (r s : Reading) (k : Keyword) (ws : List (List ℕ)) (place : Option Cause) (found : Result Item Cause) →
-    is_later_kind (has_queue r) (has_thread r) k ws ≡ false → fault_of_place r (class_of k) ≡ place →
-    read_form r.names (form_of k) ws ≡ found → and_then (placed_of place found) (taken_of r) ≡ Ok s → TakesWords r k ws s
+meant_by : (r s : Reading) (f : Form) (ws : List (List ℕ)) (place : Option Cause) (found : Result Item Cause) → is_later ws ≡ false →
+    form_for form_row forms ws ≡ Some f → fault_of_place r (class_of f) ≡ place → read_item r.names f ws ≡ found →
+    and_then (placed_of place found) (taken_of r) ≡ Ok s → TakesWords r ws s
 unfolding taken_of placed_of
-meant_by r s k ws None (Err d) in_time place found e = cc
-meant_by r s k ws (Some c) (Ok i) in_time place found e = cc
-meant_by r s k ws (Some c) (Err d) in_time place found e = formless (is_formless d) e
+meant_by r s f ws None (Err d) in_time form place found e = cc
+meant_by r s f ws (Some c) (Ok i) in_time form place found e = cc
+meant_by r s f ws (Some c) (Err d) in_time form place found e = formless (is_formless d) e
   where
-    formless : (t : Bool) → and_then (if t then Err d else Err c) (taken_of r) ≡ Ok s → TakesWords r k ws s
+    formless : (t : Bool) → and_then (if t then Err d else Err c) (taken_of r) ≡ Ok s → TakesWords r ws s
     formless true e = cc
     formless false e = cc
-meant_by r s k ws None (Ok i) in_time place found e = over (is_over r i) refl e
+meant_by r s f ws None (Ok i) in_time form place found e = over (is_over r i) refl e
   where
-    over : (t : Bool) → is_over r i ≡ t → (if t then Err cause.Limit else Ok (with_item r i)) ≡ Ok s → TakesWords r k ws s
+    over : (t : Bool) → is_over r i ≡ t → (if t then Err cause.Limit else Ok (with_item r i)) ≡ Ok s → TakesWords r ws s
     over true is e = cc
-    over false is e = record { item = i; in_time = in_time; in_place = place; means = found; within = is; becomes = cc }
+    over false is e = record {
+      form = f;
+      item = i;
+      in_time = in_time;
+      found = form;
+      in_place = place;
+      means = found;
+      within = is;
+      becomes = cc;
+    }
 
--- words behind a first word
-form_taken : (r s : Reading) (k : Keyword) (ws : List (List ℕ)) → with_form r k ws ≡ Ok s → TakesWords r k ws s
-unfolding with_form meant_of
-form_taken r s k ws e = later (is_later_kind (has_queue r) (has_thread r) k ws) refl e
-  where
-    later : (t : Bool) → is_later_kind (has_queue r) (has_thread r) k ws ≡ t →
-        (if t then Err cause.Later else and_then (placed_of (fault_of_place r (class_of k)) (read_form r.names (form_of k) ws)) (taken_of r)) ≡ Ok s →
-        TakesWords r k ws s
-    later true is e = cc
-    later false is e = meant_by r s k ws (fault_of_place r (class_of k)) (read_form r.names (form_of k) ws) is refl refl e
-
--- words that are taken
-record TakesLine (r : Reading) (all : List (List ℕ)) (s : Reading) : Type 0 where
-  word : List ℕ
-  ws : List (List ℕ)
-  keyword : Keyword
-  words : all ≡ word ∷ ws
-  first : row_of keywords word ≡ Some keyword
-  others : TakesWords r keyword ws s
-
--- words of which the first is known
-first_taken : (r s : Reading) (word : List ℕ) (ws : List (List ℕ)) (found : Option Keyword) → row_of keywords word ≡ found →
-    with_first r word found ws ≡ Ok s → TakesLine r (word ∷ ws) s
-first_taken r s word ws None found e = later (is_among later_words word) e
-  where
-    later : (t : Bool) → (if t then Err cause.Later else Err cause.Form) ≡ Ok s → TakesLine r (word ∷ ws) s
-    later true e = cc
-    later false e = cc
-first_taken r s word ws (Some k) found e = record {
-  word = word;
-  ws = ws;
-  keyword = k;
-  words = refl;
-  first = found;
-  others = form_taken r s k ws e;
-}
+-- words of a form, where they have one
+form_taken : (r s : Reading) (ws : List (List ℕ)) (found : Option Form) → is_later ws ≡ false → form_for form_row forms ws ≡ found →
+    by_form r found ws ≡ Ok s → TakesWords r ws s
+unfolding meant_of
+form_taken r s ws None in_time found e = cc
+form_taken r s ws (Some f) in_time found e =
+    meant_by r s f ws (fault_of_place r (class_of f)) (read_item r.names f ws) in_time found refl refl e
 
 -- the words of a line
-words_taken : (r s : Reading) (all : List (List ℕ)) → with_words r all ≡ Ok s → TakesLine r all s
+words_taken : (r s : Reading) (ws : List (List ℕ)) → with_words r ws ≡ Ok s → TakesWords r ws s
 unfolding with_words
-words_taken r s [] e = cc
-words_taken r s (word ∷ ws) e = first_taken r s word ws (row_of keywords word) refl e
+words_taken r s ws e = later (is_later ws) refl e
+  where
+    later : (t : Bool) → is_later ws ≡ t → (if t then Err cause.Later else by_form r (form_for form_row forms ws) ws) ≡ Ok s → TakesWords r ws s
+    later true is e = cc
+    later false is e = form_taken r s ws (form_for form_row forms ws) is refl e
 
 -- a line that is taken means something, or is a comment
 pub line_passes : (r s : Reading) (line : List ℕ) → with_line r line ≡ Ok s → Passes r line s
@@ -115,15 +125,12 @@ line_passes r s line e = plain (is_plain line) refl e
           plain = is_p;
           open_yet = is_o;
           either = inr (record {
-            word = all.word;
-            ws = all.ws;
-            keyword = all.keyword;
+            ws = words_of line;
             plain = is_p;
             open_yet = is_o;
             spoken = is;
-            words = all.words;
-            first = all.first;
-            others = all.others;
+            words = refl;
+            others = all;
           });
         }
 
@@ -139,9 +146,9 @@ line_passes r s line e = plain (is_plain line) refl e
     plain true is e = opened r.ended is refl e
 
 -- the way back: what the words mean
-meant_is : (r s : Reading) (k : Keyword) (ws : List (List ℕ)) (t : TakesWords r k ws s) → meant_of r k ws ≡ Ok t.item
+meant_is : (r s : Reading) (ws : List (List ℕ)) (t : TakesWords r ws s) → meant_of r t.form ws ≡ Ok t.item
 unfolding meant_of placed_of
-meant_is r s k ws t = rw (t.in_place, t.means) refl
+meant_is r s ws t = rw (t.in_place, t.means) refl
 
 -- no limit is passed
 over_not : (t : Bool) (r : Reading) (i : Item) (s : Reading) → t ≡ false → with_item r i ≡ s →
@@ -154,16 +161,10 @@ taken_is : (r s : Reading) (i : Item) → is_over r i ≡ false → with_item r 
 unfolding taken_of
 taken_is r s i within becomes = over_not (is_over r i) r i s within becomes
 
--- the words behind a first word
-form_is : (r s : Reading) (k : Keyword) (ws : List (List ℕ)) → TakesWords r k ws s → with_form r k ws ≡ Ok s
-unfolding with_form
-form_is r s k ws t = rw (t.in_time, meant_is r s k ws t) (taken_is r s t.item t.within t.becomes)
-
 -- the words of a line
-words_is : (r s : Reading) (word : List ℕ) (ws : List (List ℕ)) (k : Keyword) → row_of keywords word ≡ Some k → TakesWords r k ws s →
-    with_words r (word ∷ ws) ≡ Ok s
+words_is : (r s : Reading) (ws : List (List ℕ)) → TakesWords r ws s → with_words r ws ≡ Ok s
 unfolding with_words
-words_is r s word ws k first t = ap (λ o. with_first r word o ws) first ∙ form_is r s k ws t
+words_is r s ws t = rw (t.in_time, t.found, meant_is r s ws t) (taken_is r s t.item t.within t.becomes)
 
 -- a line that is plain, not behind the last, and no comment
 chosen : (p o k : Bool) (r s : Reading) (found : Result Reading Cause) → p ≡ true → o ≡ false → k ≡ false → found ≡ Ok s →
@@ -178,5 +179,5 @@ pub taken_line : (r s : Reading) (line : List ℕ) → Takes r line s → with_l
 unfolding with_line
 taken_line r s line t =
     let meant : with_words r (words_of line) ≡ Ok s =
-    ap (with_words r) t.words ∙ words_is r s t.word t.ws t.keyword t.first t.others in
+    ap (with_words r) t.words ∙ words_is r s t.ws t.others in
     chosen (is_plain line) r.ended (is_skipped line) r s (with_words r (words_of line)) t.plain t.open_yet t.spoken meant

@@ -7,7 +7,7 @@ use Rattle.trace_words.specs.Cut.{CutsOff}
 use Rattle.trace_words.specs.Lines.{pieces_of}
 use Rattle.trace_text.specs.declared.line_fault.LineFault.{LineFault}
 use Rattle.trace_text.specs.declared.line_fault.LineFault.TheVariants.{Refused, Memory}
-use Rattle.trace_text.specs.declared.status.Cause.{Cause}
+use Rattle.line_forms.specs.declared.cause.Cause.{Cause}
 use Rattle.trace_text.specs.declared.reading.Reading.{Reading}
 use Rattle.trace_text.specs.Gives.{Leaves, Answers, fault_at}
 use Rattle.trace_text.specs.Texts.{with_line, with_last, sized, at_line, pieces_from}

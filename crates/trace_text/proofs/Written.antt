@@ -4,8 +4,8 @@ use Rattle.std.proofs.lemmas.Bool.{and_parts}
 use Rattle.trace_words.specs.Lines.{pieces_of, is_plain}
 use Rattle.d3d_machine.specs.declared.calls.Call.{Call}
 use Rattle.trace_text.specs.declared.object.Declared.{Declared}
-use Rattle.trace_text.specs.declared.status.Cause.{Cause}
-use Rattle.trace_text.specs.declared.status.Cause.TheVariants as cause
+use Rattle.line_forms.specs.declared.cause.Cause.{Cause}
+use Rattle.line_forms.specs.declared.cause.Cause.TheVariants as cause
 use Rattle.trace_text.specs.declared.reading.Reading.{Reading}
 use Rattle.trace_text.specs.Reading.{opening}
 use Rattle.trace_text.specs.Texts.{with_line, with_last, sized, at_line, pieces_from, reading_of}

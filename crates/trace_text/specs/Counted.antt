@@ -1,7 +1,7 @@
 -- The counts beside a list of objects.
 use Rattle.std.specs.Prelude.{ℕ, ◌≡◌, ◌≤◌, List}
 use Rattle.trace_text.specs.declared.object.Declared.{Declared}
-use Rattle.trace_text.specs.declared.things.Kind.TheVariants as kind
+use Rattle.line_forms.specs.declared.kind.Kind.TheVariants as kind
 use Rattle.trace_text.specs.Kinds.{count_of, words_of_all}
 
 -- the numbers are the counts of the objects by kind and the words of all of them, and within the limits

@@ -1,58 +1,79 @@
--- The forms of lines: for each first word the parts behind it, and what the line means.
+-- The forms of lines: for each the parts of its words, and what stands behind them.
 use Rattle.std.specs.Prelude.{ℕ, List, [], ◌∷◌, codes}
-use Rattle.d3d_machine.specs.declared.calls.Call.TheVariants as call
-use Rattle.d3d_machine.specs.declared.calls.Record.TheVariants.{Copy}
-use Rattle.trace_text.specs.declared.object.Declared.TheVariants as declared
-use Rattle.trace_text.specs.declared.item.Item.{Item}
-use Rattle.trace_text.specs.declared.item.Item.TheVariants.{Header, Declares, Starts, Calls, Ends}
-use Rattle.trace_text.specs.declared.keyword.Keyword.{Keyword}
-use Rattle.trace_text.specs.declared.keyword.Keyword.TheVariants as keyword
-use Rattle.trace_text.specs.Parts.{version, name, queue, fence, resource, allocator, list, type, home, number}
-use Rattle.trace_text.specs.Shapes.{nothing, one, two, three, six, one_and, two_and, lists, words, Form}
+use Rattle.line_forms.specs.declared.choice.Choices.TheVariants as choices
+use Rattle.line_forms.specs.declared.kind.Kind.TheVariants as kind
+use Rattle.line_forms.specs.declared.part.Rest.TheVariants.{Nothing, Names, Words}
+use Rattle.line_forms.specs.Parts.{Place, Word, Name, NewName, Number, Choice, Row}
+use Rattle.trace_text.specs.declared.form.Class.{Class}
+use Rattle.trace_text.specs.declared.form.Class.TheVariants as class
+use Rattle.trace_text.specs.declared.form.Form.{Form}
+use Rattle.trace_text.specs.declared.form.Form.TheVariants as form
 
--- the first words of lines
-abbrev pub keywords : List (List ℕ × Keyword)
-keywords =
-    (codes "d3dtrace", keyword.D3dtrace)
-    ∷ (codes "queue", keyword.Queue)
-    ∷ (codes "fence", keyword.Fence)
-    ∷ (codes "buffer", keyword.Buffer)
-    ∷ (codes "allocator", keyword.Allocator)
-    ∷ (codes "list", keyword.List)
-    ∷ (codes "thread", keyword.Thread)
-    ∷ (codes "write", keyword.Write)
-    ∷ (codes "reset", keyword.Reset)
-    ∷ (codes "copy", keyword.Copy)
-    ∷ (codes "close", keyword.Close)
-    ∷ (codes "execute", keyword.Execute)
-    ∷ (codes "signal", keyword.Signal)
-    ∷ (codes "hostsignal", keyword.HostSignal)
-    ∷ (codes "hostwait", keyword.HostWait)
-    ∷ (codes "value", keyword.Value)
-    ∷ (codes "read", keyword.Read)
-    ∷ (codes "end", keyword.End)
+-- a form of parts alone
+abbrev pub only : List Place → Row
+only ps = record { parts = ps; rest = Nothing }
+
+-- the parts of each form
+abbrev pub form_row : Form → Row
+form_row form.Header = only (Word (codes "d3dtrace") ∷ Word (codes "1") ∷ [])
+form_row form.Queue = only (Word (codes "queue") ∷ NewName ∷ Choice choices.Type ∷ [])
+form_row form.Fence = only (Word (codes "fence") ∷ NewName ∷ Number ∷ [])
+form_row form.Buffer = only (Word (codes "buffer") ∷ NewName ∷ Choice choices.Home ∷ Number ∷ [])
+form_row form.Allocator = only (Word (codes "allocator") ∷ NewName ∷ Choice choices.Type ∷ [])
+form_row form.List = only (Word (codes "list") ∷ NewName ∷ Choice choices.Type ∷ [])
+form_row form.Thread = only (Word (codes "thread") ∷ NewName ∷ [])
+form_row form.Write = record { parts = Word (codes "write") ∷ Name kind.Resource ∷ Number ∷ []; rest = Words }
+form_row form.Reset = only (Word (codes "reset") ∷ Name kind.List ∷ Name kind.Allocator ∷ [])
+form_row form.Copy = only (Word (codes "copy") ∷ Name kind.List ∷ Name kind.Resource ∷ Number ∷ Name kind.Resource ∷ Number ∷ Number ∷ [])
+form_row form.Close = only (Word (codes "close") ∷ Name kind.List ∷ [])
+form_row form.Execute = record { parts = Word (codes "execute") ∷ Name kind.Queue ∷ []; rest = Names kind.List }
+form_row form.Signal = only (Word (codes "signal") ∷ Name kind.Queue ∷ Name kind.Fence ∷ Number ∷ [])
+form_row form.HostSignal = only (Word (codes "hostsignal") ∷ Name kind.Fence ∷ Number ∷ [])
+form_row form.HostWait = only (Word (codes "hostwait") ∷ Name kind.Fence ∷ Number ∷ [])
+form_row form.Value = only (Word (codes "value") ∷ Name kind.Fence ∷ [])
+form_row form.Read = only (Word (codes "read") ∷ Name kind.Resource ∷ Number ∷ Number ∷ [])
+form_row form.End = only (Word (codes "end") ∷ [])
+
+-- all forms, in the order in which they are tried
+abbrev pub forms : List Form
+forms =
+    form.Header
+    ∷ form.Queue
+    ∷ form.Fence
+    ∷ form.Buffer
+    ∷ form.Allocator
+    ∷ form.List
+    ∷ form.Thread
+    ∷ form.Write
+    ∷ form.Reset
+    ∷ form.Copy
+    ∷ form.Close
+    ∷ form.Execute
+    ∷ form.Signal
+    ∷ form.HostSignal
+    ∷ form.HostWait
+    ∷ form.Value
+    ∷ form.Read
+    ∷ form.End
     ∷ []
 
--- the parts of a line behind its first word, and what they make of it
-abbrev pub form_of : Keyword → Form Item
-form_of keyword.D3dtrace = record { shape = one version; make = λ _. Header }
-form_of keyword.Queue = record { shape = two name type; make = λ n t. Declares n (declared.Queue t) }
-form_of keyword.Fence = record { shape = two name number; make = λ n v. Declares n (declared.Fence v) }
-form_of keyword.Buffer = record { shape = three name home number; make = λ n h b. Declares n (declared.Buffer h b) }
-form_of keyword.Allocator = record { shape = two name type; make = λ n t. Declares n (declared.Allocator t) }
-form_of keyword.List = record { shape = two name type; make = λ n t. Declares n (declared.List t) }
-form_of keyword.Thread = record { shape = one name; make = λ n. Starts n }
-form_of keyword.Write = record { shape = two_and resource number words; make = λ b o ws. Calls (call.Write b o ws) }
-form_of keyword.Reset = record { shape = two list allocator; make = λ l a. Calls (call.Reset l a) }
-form_of keyword.Copy = record {
-  shape = six list resource number resource number number;
-  make = λ l d doff s soff n. Calls (call.Recording l (Copy d doff s soff n));
-}
-form_of keyword.Close = record { shape = one list; make = λ l. Calls (call.Close l) }
-form_of keyword.Execute = record { shape = one_and queue lists; make = λ q ls. Calls (call.Execute q ls) }
-form_of keyword.Signal = record { shape = three queue fence number; make = λ q f v. Calls (call.Signal q f v) }
-form_of keyword.HostSignal = record { shape = two fence number; make = λ f v. Calls (call.HostSignal f v) }
-form_of keyword.HostWait = record { shape = two fence number; make = λ f v. Calls (call.HostWait f v) }
-form_of keyword.Value = record { shape = one fence; make = λ f. Calls (call.Value f) }
-form_of keyword.Read = record { shape = three resource number number; make = λ b o n. Calls (call.Read b o n) }
-form_of keyword.End = record { shape = nothing; make = Ends }
+-- what a line of each form does in a trace
+abbrev pub class_of : Form → Class
+class_of form.Header = class.Header
+class_of form.Queue = class.Queue
+class_of form.Fence = class.Declaration
+class_of form.Buffer = class.Declaration
+class_of form.Allocator = class.Declaration
+class_of form.List = class.Declaration
+class_of form.Thread = class.Thread
+class_of form.Write = class.Call
+class_of form.Reset = class.Call
+class_of form.Copy = class.Call
+class_of form.Close = class.Call
+class_of form.Execute = class.Call
+class_of form.Signal = class.Call
+class_of form.HostSignal = class.Call
+class_of form.HostWait = class.Call
+class_of form.Value = class.Call
+class_of form.Read = class.Call
+class_of form.End = class.End

@@ -4,7 +4,7 @@ use Rattle.trace_text.specs.declared.line_fault.LineFault.{LineFault}
 use Rattle.trace_text.specs.declared.line_fault.LineFault.TheVariants.{Refused, Memory}
 use Rattle.trace_text.specs.declared.trace_fault.TraceFault.{TraceFault}
 use Rattle.trace_text.specs.declared.trace_fault.TraceFault.TheVariants as trace
-use Rattle.trace_text.specs.declared.status.Cause.{Cause}
+use Rattle.line_forms.specs.declared.cause.Cause.{Cause}
 
 -- the answer is what is to be read, where memory is not refused
 abbrev pub Gives : {A : Type 0} → Result A LineFault → Result A Cause → Type 0

@@ -7,10 +7,10 @@ use Rattle.d3d_machine.specs.declared.events.Event.{Event}
 use Rattle.d3d_machine.specs.declared.events.Event.TheVariants as event
 use Rattle.trace_text.specs.declared.names.Names.{Names}
 use Rattle.trace_text.specs.declared.object.Declared.{Declared}
-use Rattle.trace_text.specs.declared.things.Kind.TheVariants as kind
+use Rattle.line_forms.specs.declared.kind.Kind.TheVariants as kind
 use Rattle.trace_text.specs.Known.{names_of_kind}
 use Rattle.trace_text.specs.Names.{name_at}
-use Rattle.trace_text.specs.Text.{hex_word, line_text}
+use Rattle.line_forms.specs.Lines.{hex_word, line_text}
 use Rattle.trace_text.specs.Values.{Value}
 
 -- the names of a trace's threads, queues and fences, each list in the order of numbers; those of threads stand last

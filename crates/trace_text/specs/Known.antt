@@ -1,9 +1,10 @@
 -- The names of objects by kind.
 use Rattle.std.specs.Prelude.{ℕ, List, [], ◌∷◌, ◌++◌, if◌then◌else◌}
 use Rattle.trace_text.specs.declared.object.Declared.{Declared}
-use Rattle.trace_text.specs.declared.things.Kind.{Kind}
-use Rattle.trace_text.specs.declared.things.Kind.TheVariants as kind
+use Rattle.line_forms.specs.declared.kind.Kind.{Kind}
+use Rattle.line_forms.specs.declared.kind.Kind.TheVariants as kind
 use Rattle.trace_text.specs.Kinds.{kind_of}
+use Rattle.trace_text.specs.Names.{name_at}
 use Rattle.trace_text.specs.Things.{same_kind}
 
 -- the names of the objects of each kind, in order
@@ -13,6 +14,19 @@ pub record KnownNames : Type 0 where
   pub resources : List (List ℕ)
   pub allocators : List (List ℕ)
   pub lists : List (List ℕ)
+
+-- the names of the objects of a kind
+abbrev pub names_for : KnownNames → Kind → List (List ℕ)
+names_for known kind.Queue = known.queues
+names_for known kind.Fence = known.fences
+names_for known kind.Resource = known.resources
+names_for known kind.Allocator = known.allocators
+names_for known kind.List = known.lists
+names_for known kind.Thread = []
+
+-- the name of an object, by its kind and number
+abbrev pub known_of : KnownNames → Kind → ℕ → List ℕ
+known_of known k i = name_at (names_for known k) i
 
 -- the names with one more, of an object of a kind
 abbrev pub with_name : Kind → List ℕ → KnownNames → KnownNames

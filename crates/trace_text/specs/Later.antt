@@ -1,8 +1,6 @@
 -- Forms of lines that come later.
-use Rattle.std.specs.Prelude.{ℕ, ◌||◌, List, [], ◌∷◌, codes, Bool, false}
+use Rattle.std.specs.Prelude.{ℕ, ◌||◌, ◌&&◌, List, [], ◌∷◌, codes, Bool, false}
 use Rattle.trace_words.specs.Rows.{is_among}
-use Rattle.trace_text.specs.declared.keyword.Keyword.{Keyword}
-use Rattle.trace_text.specs.declared.keyword.Keyword.TheVariants as keyword
 
 -- first words of forms that come later
 abbrev pub later_words : List (List ℕ)
@@ -51,23 +49,20 @@ has_second some [] = false
 has_second some (v ∷ []) = false
 has_second some (v ∷ w ∷ ws) = is_among some w
 
--- the words behind a first word make it a form that comes later; so do a second queue and a second thread
-abbrev pub is_later_kind : Bool → Bool → Keyword → List (List ℕ) → Bool
-is_later_kind has_queue has_thread keyword.D3dtrace ws = has_first later_versions ws
-is_later_kind has_queue has_thread keyword.Queue ws = has_queue || has_second later_types ws
-is_later_kind has_queue has_thread keyword.Fence ws = false
-is_later_kind has_queue has_thread keyword.Buffer ws = has_second later_homes ws
-is_later_kind has_queue has_thread keyword.Allocator ws = has_second later_types ws
-is_later_kind has_queue has_thread keyword.List ws = has_second later_types ws
-is_later_kind has_queue has_thread keyword.Thread ws = has_thread
-is_later_kind has_queue has_thread keyword.Write ws = false
-is_later_kind has_queue has_thread keyword.Reset ws = false
-is_later_kind has_queue has_thread keyword.Copy ws = false
-is_later_kind has_queue has_thread keyword.Close ws = false
-is_later_kind has_queue has_thread keyword.Execute ws = false
-is_later_kind has_queue has_thread keyword.Signal ws = false
-is_later_kind has_queue has_thread keyword.HostSignal ws = false
-is_later_kind has_queue has_thread keyword.HostWait ws = false
-is_later_kind has_queue has_thread keyword.Value ws = false
-is_later_kind has_queue has_thread keyword.Read ws = false
-is_later_kind has_queue has_thread keyword.End ws = false
+-- first words behind which the version, the type or the place tells that the form comes later
+abbrev pub versioned : List (List ℕ)
+versioned = codes "d3dtrace" ∷ []
+
+abbrev pub typed : List (List ℕ)
+typed = codes "queue" ∷ codes "allocator" ∷ codes "list" ∷ []
+
+abbrev pub placed : List (List ℕ)
+placed = codes "buffer" ∷ []
+
+-- the words of a line tell that it is of a form that comes later, whatever stands behind the word that tells
+unfoldable pub is_later : List (List ℕ) → Bool
+is_later [] = false
+is_later (w ∷ ws) =
+    is_among later_words w
+    || ((is_among versioned w && has_first later_versions ws)
+    || ((is_among typed w && has_second later_types ws) || (is_among placed w && has_second later_homes ws)))

@@ -1,11 +1,10 @@
 pub mod Status
 pub mod Names
 pub mod Text
-pub mod Causes
 pub mod Things
-pub mod Parts
-pub mod Shapes
+pub mod Known
 pub mod Forms
+pub mod Formed
 pub mod Gives
 pub mod Kinds
 pub mod Counted
@@ -16,7 +15,6 @@ pub mod Texts
 pub mod Values
 pub mod Seen
 pub mod WorldOf
-pub mod Known
 pub mod Items
 pub mod Laws
 pub mod Sound

@@ -14,7 +14,8 @@ use Rattle.trace_text.specs.History.{names_in, event_text}
 use Rattle.trace_text.specs.Kinds.{is_refused_size}
 use Rattle.trace_text.specs.Left.{unfinished_threads, busy_queues, unfinished_of, busy_of}
 use Rattle.trace_text.specs.Names.{name_at}
-use Rattle.trace_text.specs.Text.{hex_word, line_text, output_text}
+use Rattle.line_forms.specs.Lines.{hex_word, line_text}
+use Rattle.trace_text.specs.Text.{output_text}
 use Rattle.trace_text.specs.Values.{Value}
 
 -- the creation of the object is refused

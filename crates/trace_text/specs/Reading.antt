@@ -2,51 +2,51 @@
 use Rattle.std.specs.Prelude.{ℕ, ◌==◌, ◌||◌, nat_lt, nat_le, Bool, true, false, List, [], ◌∷◌, ◌++◌, length, Option, Some, None, Result, Ok, Err, if◌then◌else◌}
 use Rattle.std.specs.Str.{bytes_eq}
 use Rattle.indexmap.specs.IndexMap.{insert_entry}
-use Rattle.trace_words.specs.Rows.{row_of, is_among}
-use Rattle.trace_text.specs.declared.status.Cause.{Cause}
-use Rattle.trace_text.specs.declared.status.Cause.TheVariants as cause
+use Rattle.line_forms.specs.declared.cause.Cause.{Cause}
+use Rattle.line_forms.specs.declared.cause.Cause.TheVariants as cause
 use Rattle.trace_text.specs.declared.item.Item.{Item}
 use Rattle.trace_text.specs.declared.item.Item.TheVariants as item
-use Rattle.trace_text.specs.declared.keyword.Class.{Class}
-use Rattle.trace_text.specs.declared.keyword.Class.TheVariants as class
-use Rattle.trace_text.specs.declared.keyword.Keyword.{Keyword}
-use Rattle.trace_text.specs.declared.keyword.Keyword.TheVariants as keyword
+use Rattle.trace_text.specs.declared.form.Class.{Class}
+use Rattle.trace_text.specs.declared.form.Class.TheVariants as class
 use Rattle.trace_text.specs.declared.reading.Reading.{Reading}
-use Rattle.trace_text.specs.declared.things.Kind.TheVariants as kind
-use Rattle.trace_text.specs.Forms.{keywords, form_of}
+use Rattle.line_forms.specs.declared.kind.Kind.{Kind}
+use Rattle.line_forms.specs.declared.kind.Kind.TheVariants as kind
+use Rattle.line_forms.specs.Causes.{wrapped}
+use Rattle.line_forms.specs.Finding.{form_for}
+use Rattle.line_forms.specs.Reading.{Naming, read_row}
+use Rattle.trace_text.specs.declared.form.Form.{Form}
+use Rattle.trace_text.specs.Forms.{forms, form_row, class_of}
+use Rattle.trace_text.specs.Formed.{made}
+use Rattle.trace_text.specs.Things.{Names, number_named, new_name}
 use Rattle.trace_text.specs.Kinds.{count_of, next_thing, is_one_too_many}
-use Rattle.trace_text.specs.Later.{later_words, is_later_kind}
+use Rattle.trace_text.specs.Later.{is_later}
 use Rattle.trace_text.specs.Scripts.{is_call_too_many, with_call}
-use Rattle.trace_text.specs.Shapes.{read_form}
-
--- what a first word begins
-abbrev pub class_of : Keyword → Class
-class_of keyword.D3dtrace = class.Header
-class_of keyword.Queue = class.Declaration
-class_of keyword.Fence = class.Declaration
-class_of keyword.Buffer = class.Declaration
-class_of keyword.Allocator = class.Declaration
-class_of keyword.List = class.Declaration
-class_of keyword.Thread = class.Thread
-class_of keyword.Write = class.Call
-class_of keyword.Reset = class.Call
-class_of keyword.Copy = class.Call
-class_of keyword.Close = class.Call
-class_of keyword.Execute = class.Call
-class_of keyword.Signal = class.Call
-class_of keyword.HostSignal = class.Call
-class_of keyword.HostWait = class.Call
-class_of keyword.Value = class.Call
-class_of keyword.Read = class.Call
-class_of keyword.End = class.End
 
 -- nothing is read
 abbrev pub opening : Reading
 opening = record { begun = false; ended = false; names = []; declared = []; scripts = [] }
 
+-- there is a queue
+abbrev pub has_queue : Reading → Bool
+has_queue r = nat_lt 0 (count_of kind.Queue r.declared)
+
+-- there is a thread
+abbrev pub has_thread : Reading → Bool
+has_thread r = nat_lt 0 (length r.scripts)
+
+-- a second queue and a second thread come later
+abbrev pub is_second : Reading → Class → Bool
+is_second r class.Header = false
+is_second r class.Queue = has_queue r
+is_second r class.Declaration = false
+is_second r class.Thread = has_thread r
+is_second r class.Call = false
+is_second r class.End = false
+
 -- a second header, a declaration behind a thread, and a call before the first thread
 abbrev pub is_misplaced : Reading → Class → Bool
 is_misplaced r class.Header = r.begun
+is_misplaced r class.Queue = nat_lt 0 (length r.scripts)
 is_misplaced r class.Declaration = nat_lt 0 (length r.scripts)
 is_misplaced r class.Thread = false
 is_misplaced r class.Call = length r.scripts == 0
@@ -54,14 +54,17 @@ is_misplaced r class.End = false
 
 abbrev pub is_header : Class → Bool
 is_header class.Header = true
+is_header class.Queue = false
 is_header class.Declaration = false
 is_header class.Thread = false
 is_header class.Call = false
 is_header class.End = false
 
--- why a line of a form may not stand there: it is misplaced, or it is the first and not the header
+-- why a line of a form may not stand there: it comes later, it is misplaced, or it is the first and not the header
 unfoldable pub fault_of_place : Reading → Class → Option Cause
-fault_of_place r c = if is_misplaced r c then Some cause.Order else (if r.begun || is_header c then None else Some cause.Form)
+fault_of_place r c =
+    if is_second r c then Some cause.Later
+    else (if is_misplaced r c then Some cause.Order else (if r.begun || is_header c then None else Some cause.Form))
 
 abbrev pub is_formless : Cause → Bool
 is_formless cause.Size = false
@@ -108,29 +111,32 @@ abbrev pub and_then : {A B : Type 0} → Result A Cause → (A → Result B Caus
 and_then (Ok x) f = f x
 and_then (Err e) f = Err e
 
--- there is a queue
-abbrev pub has_queue : Reading → Bool
-has_queue r = nat_lt 0 (count_of kind.Queue r.declared)
+-- the number of the object of that kind that a word names; a part names no thread
+abbrev pub object_named : Names → Kind → List ℕ → Result ℕ Cause
+object_named names kind.Queue w = number_named kind.Queue names w
+object_named names kind.Fence w = number_named kind.Fence names w
+object_named names kind.Resource w = number_named kind.Resource names w
+object_named names kind.Allocator w = number_named kind.Allocator names w
+object_named names kind.List w = number_named kind.List names w
+object_named names kind.Thread w = Err cause.Name
 
--- there is a thread
-abbrev pub has_thread : Reading → Bool
-has_thread r = nat_lt 0 (length r.scripts)
+-- what words name: the objects that are declared, and a name that is not yet
+abbrev pub naming_of : Names → Naming
+naming_of names = record { number = object_named names; fresh = new_name names }
+
+-- what words mean by a form
+unfoldable pub read_item : Names → Form → List (List ℕ) → Result Item Cause
+read_item names f ws = wrapped (made f) (read_row (naming_of names) (form_row f) ws)
 
 -- what a line means where it stands, or why it is refused
-unfoldable pub meant_of : Reading → Keyword → List (List ℕ) → Result Item Cause
-meant_of r k ws = placed_of (fault_of_place r (class_of k)) (read_form r.names (form_of k) ws)
+unfoldable pub meant_of : Reading → Form → List (List ℕ) → Result Item Cause
+meant_of r f ws = placed_of (fault_of_place r (class_of f)) (read_item r.names f ws)
 
--- what was read with one more line, whose first word is known; or why it is refused
-unfoldable pub with_form : Reading → Keyword → List (List ℕ) → Result Reading Cause
-with_form r k ws =
-    if is_later_kind (has_queue r) (has_thread r) k ws then Err cause.Later else and_then (meant_of r k ws) (taken_of r)
-
--- the same by the first word of the line
-abbrev pub with_first : Reading → List ℕ → Option Keyword → List (List ℕ) → Result Reading Cause
-with_first r word None ws = if is_among later_words word then Err cause.Later else Err cause.Form
-with_first r word (Some k) ws = with_form r k ws
+-- what was read with one more line of a form; or why it is refused
+abbrev pub by_form : Reading → Option Form → List (List ℕ) → Result Reading Cause
+by_form r None ws = Err cause.Form
+by_form r (Some f) ws = and_then (meant_of r f ws) (taken_of r)
 
 -- what was read with one more line of words, or why it is refused
 unfoldable pub with_words : Reading → List (List ℕ) → Result Reading Cause
-with_words r [] = Err cause.Form
-with_words r (word ∷ ws) = with_first r word (row_of keywords word) ws
+with_words r ws = if is_later ws then Err cause.Later else by_form r (form_for form_row forms ws) ws

@@ -1,6 +1,6 @@
 -- What contracts see of a trace, and what reading one answers.
 use Rattle.std.specs.Prelude.{ℕ, ◌≡◌, Result, Ok, Err}
-use Rattle.trace_text.specs.declared.status.Cause.{Cause}
+use Rattle.line_forms.specs.declared.cause.Cause.{Cause}
 use Rattle.trace_text.specs.declared.trace.Trace.{Trace}
 use Rattle.trace_text.specs.declared.trace_fault.TraceFault.{TraceFault}
 use Rattle.trace_text.specs.declared.trace_fault.TraceFault.TheVariants.{Refused, Memory}

@@ -7,14 +7,15 @@ use Rattle.dx_base.specs.declared.kinds.Home.TheVariants as home_of
 use Rattle.dx_base.specs.declared.kinds.ListType.{ListType}
 use Rattle.dx_base.specs.declared.kinds.ListType.TheVariants as type_of
 use Rattle.d3d_machine.specs.declared.calls.Call.{Call}
-use Rattle.d3d_machine.specs.declared.calls.Call.TheVariants as call
-use Rattle.d3d_machine.specs.declared.calls.Record.TheVariants.{Copy}
 use Rattle.d3d_machine.specs.World.{are_named}
 use Rattle.trace_words.specs.Words.{is_name}
 use Rattle.trace_text.specs.declared.object.Declared.{Declared}
 use Rattle.trace_text.specs.declared.object.Declared.TheVariants as declared
-use Rattle.trace_text.specs.declared.things.Kind.{Kind}
-use Rattle.trace_text.specs.declared.things.Kind.TheVariants as kind
+use Rattle.line_forms.specs.declared.kind.Kind.{Kind}
+use Rattle.line_forms.specs.declared.kind.Kind.TheVariants as kind
+use Rattle.line_forms.specs.Sound.{is_sound_line}
+use Rattle.trace_text.specs.Formed.{call_formed}
+use Rattle.trace_text.specs.Forms.{form_row}
 use Rattle.trace_text.specs.Kinds.{count_of, most_of, words_of_all}
 use Rattle.trace_text.specs.Scripts.{calls_in_all, lists_in_all}
 use Rattle.trace_text.specs.Values.{Value}
@@ -49,22 +50,9 @@ is_sound_object (declared.Buffer h n) = is_host_home h && is_wide n
 is_sound_object (declared.Allocator t) = is_direct t
 is_sound_object (declared.List t) = is_direct t
 
--- 1 to 256 words of 32 bits
-abbrev pub are_data_words : List ℕ → Bool
-are_data_words ws = nat_le 1 (length ws) && (nat_le (length ws) 256 && list_all (λ n. nat_lt n (2 ^ 32)) ws)
-
--- a call's numbers are of 64 bits, and its data words of 32
+-- a call's values are ones of their parts
 abbrev pub is_sound_call : Call → Bool
-is_sound_call (call.Recording l (Copy d doff s soff n)) = is_wide doff && (is_wide soff && is_wide n)
-is_sound_call (call.Close l) = true
-is_sound_call (call.Reset l a) = true
-is_sound_call (call.Execute q ls) = true
-is_sound_call (call.Signal q f v) = is_wide v
-is_sound_call (call.HostSignal f v) = is_wide v
-is_sound_call (call.HostWait f v) = is_wide v
-is_sound_call (call.Value f) = true
-is_sound_call (call.Write b o ws) = is_wide o && are_data_words ws
-is_sound_call (call.Read b o n) = is_wide o && is_wide n
+is_sound_call c = is_sound_line (form_row (call_formed c).form) (call_formed c).line
 
 -- a value has a name for each object and each thread, and its names are spelled well and differ pairwise; its objects
 -- and calls are sound; its calls name objects of it; and it keeps all limits, with at most one queue and one thread

@@ -1,25 +1,9 @@
 -- The words and the exit status of what a run ends with.
 use Rattle.std.specs.Prelude.{ℕ, List, codes}
-use Rattle.trace_text.specs.declared.status.Cause.{Cause}
-use Rattle.trace_text.specs.declared.status.Cause.TheVariants as cause
 use Rattle.trace_text.specs.declared.status.Rule.{Rule}
 use Rattle.trace_text.specs.declared.status.Rule.TheVariants as rule
 use Rattle.trace_text.specs.declared.status.Status.{Status}
 use Rattle.trace_text.specs.declared.status.Status.TheVariants as status
-
--- the name of a cause, in lower case
-abbrev pub cause_word : Cause → List ℕ
-cause_word cause.Size = codes "size"
-cause_word cause.Line = codes "line"
-cause_word cause.Cut = codes "cut"
-cause_word cause.After = codes "after"
-cause_word cause.Later = codes "later"
-cause_word cause.Order = codes "order"
-cause_word cause.Form = codes "form"
-cause_word cause.Number = codes "number"
-cause_word cause.Again = codes "again"
-cause_word cause.Name = codes "name"
-cause_word cause.Limit = codes "limit"
 
 -- the name of a rule
 abbrev pub rule_word : Rule → List ℕ

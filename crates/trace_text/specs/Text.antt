@@ -1,6 +1,8 @@
 -- The output of a run: lines of words.
 use Rattle.std.specs.Prelude.{ℕ, zero, suc, ◌+◌, ◌/◌, ◌%◌, ◌==◌, List, [], ◌∷◌, ◌++◌, map, flat_map, decimal, codes, Option, Some, None, if◌then◌else◌}
-use Rattle.std.specs.Char.{digit_char}
+use Rattle.line_forms.specs.declared.cause.Cause.{Cause}
+use Rattle.line_forms.specs.Causes.{cause_word}
+use Rattle.line_forms.specs.Lines.{hex_word, line_text}
 use Rattle.dx_base.specs.Hresult.{code_of}
 use Rattle.dx_base.specs.declared.steps.Torn.{Torn}
 use Rattle.d3d_machine.specs.declared.calls.Reply.{Reply}
@@ -9,31 +11,11 @@ use Rattle.d3d_machine.specs.declared.events.Event.{Event}
 use Rattle.d3d_machine.specs.declared.events.Event.TheVariants as event
 use Rattle.trace_text.specs.declared.names.Ending.{Ending}
 use Rattle.trace_text.specs.declared.names.Names.{Names}
-use Rattle.trace_text.specs.declared.status.Cause.{Cause}
 use Rattle.trace_text.specs.declared.status.Rule.{Rule}
 use Rattle.trace_text.specs.declared.status.Status.{Status}
 use Rattle.trace_text.specs.declared.status.Status.TheVariants as status
 use Rattle.trace_text.specs.Names.{name_at}
-use Rattle.trace_text.specs.Status.{cause_word, rule_word}
-
--- the last hexadecimal digits of a number, that many
-unfoldable pub hex_from : ℕ → ℕ → List ℕ
-hex_from zero n = []
-hex_from (suc k) n = hex_from k (n / 16) ++ digit_char (n % 16) ∷ []
-
--- eight lower-case hexadecimal digits
-unfoldable pub hex_word : ℕ → List ℕ
-hex_word n = hex_from 8 n
-
--- what stands behind the first word of a line: each word behind a space, then a line feed
-unfoldable pub rest_of_line : List (List ℕ) → List ℕ
-rest_of_line [] = 10 ∷ []
-rest_of_line (word ∷ words) = 32 ∷ (word ++ rest_of_line words)
-
--- a line: its words with single spaces between, then a line feed
-unfoldable pub line_text : List (List ℕ) → List ℕ
-line_text [] = 10 ∷ []
-line_text (word ∷ words) = word ++ rest_of_line words
+use Rattle.trace_text.specs.Status.{rule_word}
 
 -- the lines of a thread's call of that number, by its reply: none where the call has nothing to say
 unfoldable pub reply_lines : List ℕ → ℕ → Reply → List (List (List ℕ))

@@ -3,11 +3,11 @@ use Rattle.std.specs.Prelude.{ℕ, ◌==◌, nat_le, Bool, List, length, Option,
 use Rattle.std.specs.Str.{bytes_eq}
 use Rattle.std.specs.Map.{lookup}
 use Rattle.trace_words.specs.Words.{is_name}
-use Rattle.trace_text.specs.declared.things.Kind.{Kind}
-use Rattle.trace_text.specs.declared.things.Kind.TheVariants as kind
+use Rattle.line_forms.specs.declared.kind.Kind.{Kind}
+use Rattle.line_forms.specs.declared.kind.Kind.TheVariants as kind
 use Rattle.trace_text.specs.declared.things.Thing.{Thing}
-use Rattle.trace_text.specs.declared.status.Cause.{Cause}
-use Rattle.trace_text.specs.declared.status.Cause.TheVariants as cause
+use Rattle.line_forms.specs.declared.cause.Cause.{Cause}
+use Rattle.line_forms.specs.declared.cause.Cause.TheVariants as cause
 
 -- the names that are declared, each with what it names, in order
 abbrev pub Names : Type 0

@@ -3,7 +3,7 @@ use Rattle.std.specs.Prelude.{ℕ, ◌≡◌, true, List, [], ◌∷◌, map, Re
 use Rattle.d3d_machine.specs.declared.calls.Call.{Call}
 use Rattle.trace_text.specs.declared.object.Declared.{Declared}
 use Rattle.trace_text.specs.declared.reading.Reading.{Reading}
-use Rattle.trace_text.specs.declared.status.Cause.{Cause}
+use Rattle.line_forms.specs.declared.cause.Cause.{Cause}
 use Rattle.trace_text.specs.Reading.{opening, and_then}
 use Rattle.trace_text.specs.Texts.{with_line, reading_of}
 

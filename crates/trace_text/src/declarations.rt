@@ -1,12 +1,13 @@
 //! The objects that are declared, counted.
 
 ghost use Rattle.std.specs.Prelude.{◌≡◌, ◌++◌, [], ◌∷◌, false, OnOk};
-ghost use Rattle.trace_text.specs.declared.things.Kind.TheVariants as kind;
+ghost use Rattle.line_forms.specs.declared.kind.Kind.TheVariants as kind;
 ghost use Rattle.trace_text.specs.Kinds.{count_of, most_of, is_one_too_many, next_thing};
 
 use crate::object::Declared;
-use crate::things::{Kind, Thing};
+use crate::things::Thing;
 use dx_base::{ALL_WORDS, ALLOCATORS, FENCES, LISTS, Memory, QUEUES, RESOURCES, Seq, THREADS};
+use line_forms::Kind;
 use std::alloc::Global;
 use std::marker::Model;
 

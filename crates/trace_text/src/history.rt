@@ -3,18 +3,18 @@
 ghost use Rattle.std.specs.Prelude.{◌≡◌, ◌++◌, flat_map, IfOk, OnOk};
 ghost use Rattle.trace_text.specs.History.{reply_words, event_text, history_text};
 ghost use Rattle.trace_text.specs.Seen.{seen};
-ghost use Rattle.trace_text.specs.Text.{rest_of_line};
+ghost use Rattle.line_forms.specs.Lines.{rest_of_line};
 
-use crate::append::{end_line, end_with_words, put, put_hex, put_next, put_number};
 use crate::names::{Names, names_of};
 use crate::text::name_of;
 use crate::trace::Trace;
 use d3d_machine::{Event, Reply};
 use dx_base::Memory;
+use line_forms::{end_line, end_with_words, put, put_hex, put_next, put_number};
 use std::alloc::Global;
 
 /// Ends a line with the words of a reply.
-#[tactic(auto, unfolding(crate::specs::Text::rest_of_line))]
+#[tactic(auto, unfolding(line_forms::specs::Lines::rest_of_line))]
 fn end_with_reply(out: &mut Vec<u8>, reply: &Reply) -> Result<(), Memory>
     ensures { OnOk result (out.new.items ≡ out.old.items ++ rest_of_line (reply_words reply.now)) }
 {
@@ -37,7 +37,7 @@ fn end_with_reply(out: &mut Vec<u8>, reply: &Reply) -> Result<(), Memory>
 }
 
 /// Appends the line of an event.
-#[tactic(auto, unfolding(crate::specs::History::event_text, crate::specs::Text::line_text, crate::specs::Text::rest_of_line))]
+#[tactic(auto, unfolding(crate::specs::History::event_text, line_forms::specs::Lines::line_text, line_forms::specs::Lines::rest_of_line))]
 fn put_event(out: &mut Vec<u8>, names: &Names, event: &Event) -> Result<(), Memory>
     ensures { OnOk result (out.new.items ≡ out.old.items ++ event_text names.now event.now) }
 {

@@ -2,12 +2,12 @@
 
 ghost use Rattle.std.specs.Prelude.{◌≡◌, [], map, drop, slice_get, IfOk, OnOk};
 ghost use Rattle.std.specs.Option.{option_copied};
-ghost use Rattle.trace_text.specs.Known.{with_name, known_names};
+ghost use Rattle.trace_text.specs.Known.{names_for, with_name, known_names};
 ghost use Rattle.trace_text.specs.Names.{name_at};
 
 use crate::object::Declared;
-use crate::things::Kind;
-use dx_base::{AllocatorId, FenceId, ListId, Memory, QueueId, ResourceId, Seq};
+use dx_base::{Memory, Seq};
+use line_forms::{Kind, Named};
 use std::alloc::Global;
 use std::marker::Model;
 use trace_words::Name;
@@ -141,33 +141,27 @@ impl<'a> Known<'a> {
         copied(alloc, &self.fences)
     }
 
-    pub fn queue(&self, queue: QueueId) -> &'a [u8]
-        ensures { result.now ≡ name_at self.now.queues queue.0 }
+    /// The names of a kind.
+    fn of_kind(&self, kind: Kind) -> &[&'a Name]
+        ensures { map (λ n. n.now) result.now ≡ names_for self.now kind }
     {
-        known_name(&self.queues, queue.0 as usize)
+        match kind {
+            Kind::Queue => &self.queues,
+            Kind::Fence => &self.fences,
+            Kind::Resource => &self.resources,
+            Kind::Allocator => &self.allocators,
+            Kind::List => &self.lists,
+            Kind::Thread => &[],
+        }
     }
+}
 
-    pub fn fence(&self, fence: FenceId) -> &'a [u8]
-        ensures { result.now ≡ name_at self.now.fences fence.0 }
-    {
-        known_name(&self.fences, fence.0 as usize)
-    }
+impl<'a> Named for Known<'a> {
+    ghost use Rattle.trace_text.specs.Known.{known_of};
 
-    pub fn resource(&self, resource: ResourceId) -> &'a [u8]
-        ensures { result.now ≡ name_at self.now.resources resource.0 }
-    {
-        known_name(&self.resources, resource.0 as usize)
-    }
+    ghost known = { known_of };
 
-    pub fn allocator(&self, allocator: AllocatorId) -> &'a [u8]
-        ensures { result.now ≡ name_at self.now.allocators allocator.0 }
-    {
-        known_name(&self.allocators, allocator.0 as usize)
-    }
-
-    pub fn list(&self, list: ListId) -> &'a [u8]
-        ensures { result.now ≡ name_at self.now.lists list.0 }
-    {
-        known_name(&self.lists, list.0 as usize)
+    fn name(&self, kind: Kind, number: u32) -> &[u8] {
+        known_name(self.of_kind(kind), number as usize)
     }
 }

@@ -2,9 +2,8 @@
 
 ghost use Rattle.std.specs.Prelude.{◌≡◌, map};
 ghost use Rattle.trace_words.specs.Rows.{is_among};
-ghost use Rattle.trace_text.specs.Later.{later_words, later_versions, later_types, later_homes, has_first, has_second, is_later_kind};
+ghost use Rattle.trace_text.specs.Later.{later_words, later_versions, later_types, later_homes, has_first, has_second, versioned, typed, placed, is_later};
 
-use crate::keyword::Keyword;
 use trace_words::is_among;
 
 /// First words of forms that come later.
@@ -41,8 +40,15 @@ const TYPES: [&str; 2] = ["compute", "copy"];
 /// Places of buffers that come later.
 const HOMES: [&str; 2] = ["legacy", "enhanced"];
 
+/// First words behind which the version, the type or the place tells that the form comes later.
+const VERSIONED: [&str; 1] = ["d3dtrace"];
+
+const TYPED: [&str; 3] = ["queue", "allocator", "list"];
+
+const PLACED: [&str; 1] = ["buffer"];
+
 /// The word is the first word of a form that comes later.
-pub fn is_later_word(word: &[u8]) -> bool
+fn is_later_word(word: &[u8]) -> bool
     ensures { result ≡ is_among later_words word.now }
 {
     is_among(&WORDS, word)
@@ -99,28 +105,37 @@ fn has_later_home(words: &[&[u8]]) -> bool
     }
 }
 
-/// The words behind a first word make it a form that comes later, whatever stands behind the word that tells. So do a
-/// second queue and a second thread.
-pub fn is_later_kind(has_queue: bool, has_thread: bool, keyword: Keyword, words: &[&[u8]]) -> bool
-    ensures { result ≡ is_later_kind has_queue has_thread keyword (map (λ word. word.now) words.now) }
+/// The word is the first of a line whose version tells that it comes later.
+fn is_versioned(word: &[u8]) -> bool
+    ensures { result ≡ is_among versioned word.now }
 {
-    match keyword {
-        Keyword::D3dtrace => has_later_version(words),
-        Keyword::Queue => has_queue || has_later_type(words),
-        Keyword::Buffer => has_later_home(words),
-        Keyword::Allocator | Keyword::List => has_later_type(words),
-        Keyword::Thread => has_thread,
-        Keyword::Fence
-        | Keyword::Write
-        | Keyword::Reset
-        | Keyword::Copy
-        | Keyword::Close
-        | Keyword::Execute
-        | Keyword::Signal
-        | Keyword::HostSignal
-        | Keyword::HostWait
-        | Keyword::Value
-        | Keyword::Read
-        | Keyword::End => false,
-    }
+    is_among(&VERSIONED, word)
+}
+
+/// The word is the first of a line whose type tells that it comes later.
+fn is_typed(word: &[u8]) -> bool
+    ensures { result ≡ is_among typed word.now }
+{
+    is_among(&TYPED, word)
+}
+
+/// The word is the first of a line whose place tells that it comes later.
+fn is_placed(word: &[u8]) -> bool
+    ensures { result ≡ is_among placed word.now }
+{
+    is_among(&PLACED, word)
+}
+
+/// The words of a line tell that it is of a form that comes later, whatever stands behind the word that tells.
+#[tactic(auto, unfolding(crate::specs::Later::is_later))]
+pub fn is_later(words: &[&[u8]]) -> bool
+    ensures { result ≡ is_later (map (λ word. word.now) words.now) }
+{
+    let [first, rest @ ..] = words else {
+        return false;
+    };
+    is_later_word(first)
+        || ((is_versioned(first) && has_later_version(rest))
+            || ((is_typed(first) && has_later_type(rest))
+                || (is_placed(first) && has_later_home(rest))))
 }

@@ -1,13 +1,10 @@
 //! The text layer: the reader of traces, the text of a run's output, and what a run ends with.
 #![tactic(auto)]
 
-mod append;
 mod declarations;
-mod forms;
+mod form;
 mod history;
 mod item;
-mod joined;
-mod keyword;
 mod known;
 mod later;
 mod laws;
@@ -17,9 +14,7 @@ mod name_table;
 mod names;
 mod object;
 mod outcome;
-mod parts;
-mod printed_calls;
-mod printed_objects;
+mod printed;
 mod printer;
 mod read;
 mod reading;
@@ -39,11 +34,12 @@ pub use laws::{
     a_printed_trace_reads_as_it_was, a_trace_says_a_sound_value,
     each_sound_value_is_read_of_its_text, only_the_first_bytes_count, what_is_read_is_the_grammar,
 };
+pub use line_forms::Cause;
 pub use object::Declared;
 pub use outcome::{Outcome, output, refused_of};
 pub use printer::print_trace;
 pub use read::read_trace;
-pub use status::{Cause, Report, Rule, Status, Verdict};
+pub use status::{Report, Rule, Status, Verdict};
 pub use text::plain_line;
 pub use trace::Trace;
 pub use trace_fault::TraceFault;

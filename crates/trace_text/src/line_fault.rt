@@ -1,7 +1,7 @@
 //! Why a line is not taken.
 
-use crate::status::Cause;
 use dx_base::Memory;
+use line_forms::Cause;
 
 /// Why a line is not taken: the trace is refused there, or memory is.
 #[derive(Clone, Copy, Debug, PartialEq, Eq)]

@@ -7,10 +7,10 @@ ghost use Rattle.std.specs.Str.{bytes_eq};
 ghost use Rattle.indexmap.specs.IndexMap.{insert_entry};
 ghost use Rattle.trace_text.specs.Things.{thing_of, number_named, new_name};
 
-use crate::status::Cause;
-use crate::things::{Kind, Thing};
+use crate::things::{Thing, same_kind};
 use dx_base::{Memory, Seq};
 use indexmap::IndexMap;
+use line_forms::{Cause, Kind, Naming};
 use std::alloc::Global;
 use std::marker::Model;
 use trace_words::{Name, is_name};
@@ -53,14 +53,14 @@ impl NameTable {
     /// The number of the thing of that kind that a word names. `Form`: the word is spelled as no name; `Name`: it
     /// names no thing of that kind.
     #[tactic(auto, unfolding(crate::specs::Things::number_named))]
-    pub fn number(&self, kind: Kind, word: &[u8]) -> Result<u32, Cause>
+    fn number_of(&self, kind: Kind, word: &[u8]) -> Result<u32, Cause>
         ensures { result ≡ number_named kind self.now word.now }
     {
         if !is_name(word) {
             return Err(Cause::Form);
         }
         match self.find(word) {
-            Some(thing) if kind.is(thing.kind) => Ok(thing.number),
+            Some(thing) if same_kind(kind, thing.kind) => Ok(thing.number),
             _ => Err(Cause::Name),
         }
     }
@@ -68,7 +68,7 @@ impl NameTable {
     /// A word as a new name. `Form`: the word is spelled as no name; `Again`: it is declared; `Limit`: it is too
     /// long.
     #[tactic(auto, unfolding(crate::specs::Things::new_name))]
-    pub fn fresh(&self, word: &[u8]) -> Result<Name, Cause>
+    fn new_name(&self, word: &[u8]) -> Result<Name, Cause>
         ensures { result ≡ new_name self.now word.now }
     {
         if !is_name(word) {
@@ -98,5 +98,24 @@ impl NameTable {
     {
         let names = self.things.into_keys().collect(alloc)?;
         Ok(Seq::from_vec(names))
+    }
+}
+
+impl Naming for NameTable {
+    ghost use Rattle.trace_text.specs.Reading.{naming_of};
+
+    ghost names = { naming_of };
+
+    fn number(&self, kind: Kind, word: &[u8]) -> Result<u32, Cause> {
+        match kind {
+            Kind::Queue | Kind::Fence | Kind::Resource | Kind::Allocator | Kind::List => {
+                self.number_of(kind, word)
+            }
+            Kind::Thread => Err(Cause::Name),
+        }
+    }
+
+    fn fresh(&self, word: &[u8]) -> Result<Name, Cause> {
+        self.new_name(word)
     }
 }

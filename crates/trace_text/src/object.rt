@@ -3,8 +3,8 @@
 ghost use Rattle.std.specs.Prelude.{◌≡◌, ◌≤◌};
 ghost use Rattle.trace_text.specs.Kinds.{kind_of, is_refused_size, words_of_object};
 
-use crate::things::Kind;
 use dx_base::{Home, ListType};
+use line_forms::Kind;
 
 /// An object that a line declares, its parts in the order of the line.
 #[derive(Clone, Copy, Debug, PartialEq, Eq)]

@@ -5,7 +5,6 @@ ghost use Rattle.std.specs.Option.{option_copied, option_map};
 ghost use Rattle.trace_text.specs.Output.{is_refused, refused_of, refused_text, tells_run, ending_from, shown_history, told_run, value_or_none, output_of};
 ghost use Rattle.trace_text.specs.Seen.{seen};
 
-use crate::append::{end_line, put, put_hex, put_next};
 use crate::history::put_events;
 use crate::known::name_of;
 use crate::left::{busy_queues, number_at, unfinished_threads};
@@ -16,6 +15,7 @@ use crate::text::put_output;
 use crate::trace::Trace;
 use d3d_machine::{Call, Event};
 use dx_base::{Hresult, Memory, Seq};
+use line_forms::{end_line, put, put_hex, put_next};
 use std::alloc::Global;
 use trace_words::Name;
 
@@ -83,7 +83,7 @@ pub fn refused_of(alloc: Global, trace: &Trace) -> Result<Seq<u32>, Memory>
 }
 
 /// Appends the line of a refused declaration.
-#[tactic(auto, unfolding(crate::specs::Output::refused_text, crate::specs::Text::line_text, crate::specs::Text::rest_of_line))]
+#[tactic(auto, unfolding(crate::specs::Output::refused_text, line_forms::specs::Lines::line_text, line_forms::specs::Lines::rest_of_line))]
 fn put_refused(out: &mut Vec<u8>, names: &[Name], place: usize) -> Result<(), Memory>
     ensures { OnOk result (out.new.items ≡ out.old.items ++ refused_text names.now place) }
 {

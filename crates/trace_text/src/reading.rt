@@ -3,21 +3,20 @@
 ghost use Rattle.std.specs.Prelude.{◌≡◌, map, false, OnOk, IfOk};
 ghost use Rattle.trace_text.specs.declared.item.Item.TheVariants as item;
 ghost use Rattle.trace_text.specs.Gives.{Gives, Leaves};
-ghost use Rattle.trace_text.specs.Reading.{opening, is_misplaced, fault_of_place, is_formless, placed_of, is_over, with_item, taken_of, and_then, has_queue, has_thread, meant_of, with_form, with_words};
+ghost use Rattle.trace_text.specs.Reading.{opening, has_queue, has_thread, is_second, is_misplaced, fault_of_place, is_formless, placed_of, is_over, with_item, taken_of, and_then, read_item, meant_of, by_form, with_words};
 
 use crate::declarations::Declarations;
-use crate::forms::item;
-use crate::item::Item;
-use crate::keyword::{Class, Keyword, keyword_of};
-use crate::later::{is_later_kind, is_later_word};
+use crate::form::{Class, Form, all_forms};
+use crate::item::{Item, item_of};
+use crate::later::is_later;
 use crate::line_fault::LineFault;
 use crate::name_table::NameTable;
 use crate::object::Declared;
 use crate::scripts::Scripts;
-use crate::status::Cause;
-use crate::things::{Kind, Thing};
+use crate::things::Thing;
 use d3d_machine::Call;
 use dx_base::{Memory, THREADS};
+use line_forms::{Cause, Kind, form_for, read_line};
 use std::alloc::Global;
 use trace_words::Name;
 
@@ -32,24 +31,22 @@ pub struct Reading {
     pub scripts: Scripts,
 }
 
-impl Cause {
-    /// The cause is that words are of no form.
-    fn is_formless(self) -> bool
-        ensures { result ≡ is_formless self }
-    {
-        match self {
-            Cause::Form => true,
-            Cause::Size
-            | Cause::Line
-            | Cause::Cut
-            | Cause::After
-            | Cause::Later
-            | Cause::Order
-            | Cause::Number
-            | Cause::Again
-            | Cause::Name
-            | Cause::Limit => false,
-        }
+/// The cause is that words are of no form.
+fn is_formless(cause: Cause) -> bool
+    ensures { result ≡ is_formless cause }
+{
+    match cause {
+        Cause::Form => true,
+        Cause::Size
+        | Cause::Line
+        | Cause::Cut
+        | Cause::After
+        | Cause::Later
+        | Cause::Order
+        | Cause::Number
+        | Cause::Again
+        | Cause::Name
+        | Cause::Limit => false,
     }
 }
 
@@ -65,7 +62,7 @@ fn placed(place: Option<Cause>, found: Result<Item, Cause>) -> Result<Item, Caus
     match found {
         Ok(_) => Err(place),
         Err(cause) => {
-            if cause.is_formless() {
+            if is_formless(cause) {
                 Err(cause)
             } else {
                 Err(place)
@@ -94,10 +91,35 @@ impl Reading {
     {
         match class {
             Class::Header => self.begun,
-            Class::Declaration => self.scripts.len() > 0,
+            Class::Queue | Class::Declaration => self.scripts.len() > 0,
             Class::Thread => false,
             Class::Call => self.scripts.len() == 0,
             Class::End => false,
+        }
+    }
+
+    /// There is a queue.
+    fn has_queue(&self) -> bool
+        ensures { result ≡ has_queue self.now }
+    {
+        self.declared.count(Kind::Queue) > 0
+    }
+
+    /// There is a thread.
+    fn has_thread(&self) -> bool
+        ensures { result ≡ has_thread self.now }
+    {
+        self.scripts.len() > 0
+    }
+
+    /// A line is a second queue or a second thread.
+    fn is_second(&self, class: Class) -> bool
+        ensures { result ≡ is_second self.now class }
+    {
+        match class {
+            Class::Queue => self.has_queue(),
+            Class::Thread => self.has_thread(),
+            Class::Header | Class::Declaration | Class::Call | Class::End => false,
         }
     }
 
@@ -106,7 +128,9 @@ impl Reading {
     fn fault_of_place(&self, class: Class) -> Option<Cause>
         ensures { result ≡ fault_of_place self.now class }
     {
-        if self.is_misplaced(class) {
+        if self.is_second(class) {
+            Some(Cause::Later)
+        } else if self.is_misplaced(class) {
             Some(Cause::Order)
         } else if self.begun || class == Class::Header {
             None
@@ -170,18 +194,20 @@ impl Reading {
         Ok(())
     }
 
-    /// There is a queue.
-    fn has_queue(&self) -> bool
-        ensures { result ≡ has_queue self.now }
+    /// What words mean by a form, or why they mean nothing.
+    #[tactic(auto, unfolding(crate::specs::Reading::read_item))]
+    fn read_item(
+        &self,
+        alloc: Global,
+        form: Form,
+        words: &[&[u8]],
+    ) -> Result<Result<Item, Cause>, Memory>
+        ensures { IfOk result (λ item. item ≡ read_item self.now.names form (map (λ word. word.now) words.now)) }
     {
-        self.declared.count(Kind::Queue) > 0
-    }
-
-    /// There is a thread.
-    fn has_thread(&self) -> bool
-        ensures { result ≡ has_thread self.now }
-    {
-        self.scripts.len() > 0
+        match read_line(alloc, &self.names, form, words)? {
+            Ok(line) => Ok(Ok(item_of(alloc, form, line)?)),
+            Err(cause) => Ok(Err(cause)),
+        }
     }
 
     /// What a line means where it stands, or why it is refused.
@@ -189,13 +215,13 @@ impl Reading {
     fn meant(
         &self,
         alloc: Global,
-        keyword: Keyword,
+        form: Form,
         words: &[&[u8]],
     ) -> Result<Result<Item, Cause>, Memory>
-        ensures { IfOk result (λ meant. meant ≡ meant_of self.now keyword (map (λ word. word.now) words.now)) }
+        ensures { IfOk result (λ meant. meant ≡ meant_of self.now form (map (λ word. word.now) words.now)) }
     {
-        let found = item(alloc, &self.names, keyword, words)?;
-        Ok(placed(self.fault_of_place(keyword.class()), found))
+        let found = self.read_item(alloc, form, words)?;
+        Ok(placed(self.fault_of_place(form.class()), found))
     }
 
     /// Takes what a line means, where it passes no limit.
@@ -208,20 +234,19 @@ impl Reading {
         }
     }
 
-    /// Takes a line whose first word is known, by the words behind it.
-    #[tactic(auto, unfolding(crate::specs::Reading::with_form))]
+    /// Takes a line of words by the form that they fit.
     fn take_form(
         &mut self,
         alloc: Global,
-        keyword: Keyword,
+        form: Option<Form>,
         words: &[&[u8]],
     ) -> Result<(), LineFault>
-        ensures { Leaves result self.new (with_form self.old keyword (map (λ word. word.now) words.now)) }
+        ensures { Leaves result self.new (by_form self.old form (map (λ word. word.now) words.now)) }
     {
-        if is_later_kind(self.has_queue(), self.has_thread(), keyword, words) {
-            return Err(LineFault::Refused(Cause::Later));
-        }
-        let meant = self.meant(alloc, keyword, words)?;
+        let Some(form) = form else {
+            return Err(LineFault::Refused(Cause::Form));
+        };
+        let meant = self.meant(alloc, form, words)?;
         self.take_meant(alloc, meant)
     }
 
@@ -230,16 +255,9 @@ impl Reading {
     pub fn take_words(&mut self, alloc: Global, words: &[&[u8]]) -> Result<(), LineFault>
         ensures { Leaves result self.new (with_words self.old (map (λ word. word.now) words.now)) }
     {
-        let [first, rest @ ..] = words else {
-            return Err(LineFault::Refused(Cause::Form));
-        };
-        match keyword_of(first) {
-            Some(keyword) => self.take_form(alloc, keyword, rest),
-            None => Err(LineFault::Refused(if is_later_word(first) {
-                Cause::Later
-            } else {
-                Cause::Form
-            })),
+        if is_later(words) {
+            return Err(LineFault::Refused(Cause::Later));
         }
+        self.take_form(alloc, form_for(all_forms(), words), words)
     }
 }

@@ -1,60 +1,11 @@
 //! What a run ends with: its status, its verdict, and the report of both with the steps that led there.
 
 ghost use Rattle.std.specs.Prelude.{◌≡◌};
-ghost use Rattle.trace_text.specs.Status.{exit_code_of, cause_word, rule_word};
+ghost use Rattle.trace_text.specs.Status.{exit_code_of, rule_word};
 
 use d3d_machine::Event;
 use dx_base::{Step, Torn};
-
-/// Why a trace is refused: the first of these that applies to its first bad line.
-#[derive(Clone, Copy, Debug, PartialEq, Eq)]
-pub enum Cause {
-    /// The line holds the first byte past the most that a text may have.
-    Size,
-    /// The line is too long, or has a byte that no line has.
-    Line,
-    /// The line has no line feed, or the text stops there and no `end` came.
-    Cut,
-    /// The line stands behind `end`.
-    After,
-    /// The line is of a form that is not built yet, or says version 2 of the text.
-    Later,
-    /// The line has a form and may not stand there: it is a call before the first thread, a declaration of an object
-    /// behind it, or a second header.
-    Order,
-    /// The line is of no form, or is the first line and not the header.
-    Form,
-    /// A number of the line is 2^64 or more.
-    Number,
-    /// The line declares a name that is declared.
-    Again,
-    /// The line names nothing that was declared before it, or a thing of another kind.
-    Name,
-    /// The line passes a limit: on the bytes of a name, on the count of objects of a kind, on the words of all buffers
-    /// together, on the count of calls, or on the count of lists that calls of execute name.
-    Limit,
-}
-
-impl Cause {
-    /// The cause's name, in lower case.
-    pub fn word(self) -> &'static str
-        ensures { result.now ≡ cause_word self }
-    {
-        match self {
-            Cause::Size => "size",
-            Cause::Line => "line",
-            Cause::Cut => "cut",
-            Cause::After => "after",
-            Cause::Later => "later",
-            Cause::Order => "order",
-            Cause::Form => "form",
-            Cause::Number => "number",
-            Cause::Again => "again",
-            Cause::Name => "name",
-            Cause::Limit => "limit",
-        }
-    }
-}
+use line_forms::Cause;
 
 /// A rule of the judges of Direct3D.
 #[derive(Clone, Copy, Debug, PartialEq, Eq)]

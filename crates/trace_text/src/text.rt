@@ -5,14 +5,15 @@ ghost use Rattle.std.specs.Option.{option_copied};
 ghost use Rattle.trace_text.specs.declared.outcome.Outcome.{Outcome};
 ghost use Rattle.trace_text.specs.Names.{name_at};
 ghost use Rattle.trace_text.specs.Output.{output_of};
-ghost use Rattle.trace_text.specs.Text.{line_text, reply_lines, answer_lines, replies_by, replies_in, call_lines, fence_lines, stalled_lines, usage_line, refused_line, broken_line, torn_line, run_lines, left_lines, output_lines, plain_text};
+ghost use Rattle.line_forms.specs.Lines.{line_text};
+ghost use Rattle.trace_text.specs.Text.{reply_lines, answer_lines, replies_by, replies_in, call_lines, fence_lines, stalled_lines, usage_line, refused_line, broken_line, torn_line, run_lines, left_lines, output_lines, plain_text};
 ghost use Rattle.trace_text.specs.Values.{Value};
 
-use crate::append::{end_line, end_with_words, put, put_hex, put_next, put_number};
 use crate::names::{Ending, Names};
-use crate::status::{Cause, Rule, Status};
+use crate::status::{Rule, Status};
 use d3d_machine::{Event, Reply};
 use dx_base::{Memory, Seq, Torn};
+use line_forms::{Cause, end_line, end_with_words, put, put_hex, put_next, put_number};
 
 /// The name of that place; empty where there is none.
 pub fn name_of(names: &[Seq<u8>], at: usize) -> &[u8]
@@ -25,7 +26,7 @@ pub fn name_of(names: &[Seq<u8>], at: usize) -> &[u8]
 }
 
 /// Appends the line of a thread's call of that number, where its reply has one.
-#[tactic(auto, unfolding(crate::specs::Text::reply_lines, crate::specs::Text::line_text, crate::specs::Text::rest_of_line))]
+#[tactic(auto, unfolding(crate::specs::Text::reply_lines, line_forms::specs::Lines::line_text, line_forms::specs::Lines::rest_of_line))]
 fn put_reply(out: &mut Vec<u8>, name: &[u8], call: u64, reply: &Reply) -> Result<(), Memory>
     ensures { OnOk result (out.new.items ≡ out.old.items ++ flat_map line_text (reply_lines name.now call reply.now)) }
 {
@@ -117,7 +118,7 @@ fn put_calls(out: &mut Vec<u8>, names: &[Seq<u8>], history: &[Event]) -> Result<
 }
 
 /// Appends the lines of fences' values.
-#[tactic(auto, unfolding(crate::specs::Text::fence_lines, crate::specs::Text::line_text, crate::specs::Text::rest_of_line))]
+#[tactic(auto, unfolding(crate::specs::Text::fence_lines, line_forms::specs::Lines::line_text, line_forms::specs::Lines::rest_of_line))]
 fn put_fences(out: &mut Vec<u8>, names: &[Seq<u8>], values: &[u64]) -> Result<(), Memory>
     ensures { OnOk result (out.new.items ≡ out.old.items ++ flat_map line_text (fence_lines names.now 0 values.now)) }
 {
@@ -131,7 +132,7 @@ fn put_fences(out: &mut Vec<u8>, names: &[Seq<u8>], values: &[u64]) -> Result<()
 }
 
 /// Appends a line for each object of those numbers.
-#[tactic(auto, unfolding(crate::specs::Text::stalled_lines, crate::specs::Text::line_text, crate::specs::Text::rest_of_line))]
+#[tactic(auto, unfolding(crate::specs::Text::stalled_lines, line_forms::specs::Lines::line_text, line_forms::specs::Lines::rest_of_line))]
 fn put_stalled(
     out: &mut Vec<u8>,
     kind: &[u8],
@@ -183,7 +184,7 @@ fn put_left(out: &mut Vec<u8>, names: &Names, ending: &Ending) -> Result<(), Mem
 }
 
 /// Appends the line `broken RULE EVENT`.
-#[tactic(auto, unfolding(crate::specs::Text::line_text, crate::specs::Text::rest_of_line))]
+#[tactic(auto, unfolding(line_forms::specs::Lines::line_text, line_forms::specs::Lines::rest_of_line))]
 fn put_broken(out: &mut Vec<u8>, rule: Rule, event: u64) -> Result<(), Memory>
     ensures { OnOk result (out.new.items ≡ out.old.items ++ line_text (broken_line rule event)) }
 {
@@ -194,7 +195,7 @@ fn put_broken(out: &mut Vec<u8>, rule: Rule, event: u64) -> Result<(), Memory>
 }
 
 /// Appends the line `torn HEAP SLOT DECLARED FOUND`.
-#[tactic(auto, unfolding(crate::specs::Text::line_text, crate::specs::Text::rest_of_line))]
+#[tactic(auto, unfolding(line_forms::specs::Lines::line_text, line_forms::specs::Lines::rest_of_line))]
 fn put_torn(out: &mut Vec<u8>, torn: Torn) -> Result<(), Memory>
     ensures { OnOk result (out.new.items ≡ out.old.items ++ line_text (torn_line torn)) }
 {
@@ -207,7 +208,7 @@ fn put_torn(out: &mut Vec<u8>, torn: Torn) -> Result<(), Memory>
 }
 
 /// Appends the line `usage K`.
-#[tactic(auto, unfolding(crate::specs::Text::line_text, crate::specs::Text::rest_of_line))]
+#[tactic(auto, unfolding(line_forms::specs::Lines::line_text, line_forms::specs::Lines::rest_of_line))]
 fn put_usage(out: &mut Vec<u8>, argument: u32) -> Result<(), Memory>
     ensures { OnOk result (out.new.items ≡ out.old.items ++ line_text (usage_line argument)) }
 {
@@ -217,7 +218,7 @@ fn put_usage(out: &mut Vec<u8>, argument: u32) -> Result<(), Memory>
 }
 
 /// Appends the line `refused line N CAUSE`.
-#[tactic(auto, unfolding(crate::specs::Text::line_text, crate::specs::Text::rest_of_line))]
+#[tactic(auto, unfolding(line_forms::specs::Lines::line_text, line_forms::specs::Lines::rest_of_line))]
 fn put_refused(out: &mut Vec<u8>, line: u64, cause: Cause) -> Result<(), Memory>
     ensures { OnOk result (out.new.items ≡ out.old.items ++ line_text (refused_line line cause)) }
 {
@@ -228,7 +229,7 @@ fn put_refused(out: &mut Vec<u8>, line: u64, cause: Cause) -> Result<(), Memory>
 }
 
 /// Appends the output of a run.
-#[tactic(auto, unfolding(crate::specs::Text::output_lines, crate::specs::Text::line_text, crate::specs::Text::rest_of_line))]
+#[tactic(auto, unfolding(crate::specs::Text::output_lines, line_forms::specs::Lines::line_text, line_forms::specs::Lines::rest_of_line))]
 pub fn put_output(
     out: &mut Vec<u8>,
     names: &Names,
@@ -267,7 +268,7 @@ pub fn put_output(
 
 /// The whole output where it says nothing of the run and memory may be wanting: of a read fault, and of memory that
 /// was refused.
-#[tactic(auto, unfolding(crate::specs::Output::output_of, crate::specs::Output::told_run, crate::specs::Text::output_text, crate::specs::Text::output_lines, crate::specs::Text::line_text, crate::specs::Text::rest_of_line))]
+#[tactic(auto, unfolding(crate::specs::Output::output_of, crate::specs::Output::told_run, crate::specs::Text::output_text, crate::specs::Text::output_lines, line_forms::specs::Lines::line_text, line_forms::specs::Lines::rest_of_line))]
 pub fn plain_line(status: Status) -> Option<&'static [u8]>
     ensures value { option_copied result ≡ plain_text status }
     ensures of_run { (t : Option Value) → (o : Outcome) →

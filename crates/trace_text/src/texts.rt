@@ -6,9 +6,9 @@ ghost use Rattle.trace_text.specs.Texts.{is_skipped, with_line, with_last, sized
 
 use crate::line_fault::LineFault;
 use crate::reading::Reading;
-use crate::status::Cause;
 use crate::trace_fault::TraceFault;
 use dx_base::TRACE_BYTES;
+use line_forms::Cause;
 use std::alloc::Global;
 use trace_words::{cut, is_plain, words_of_line};
 

@@ -1,7 +1,7 @@
 //! Why a trace is not read.
 
-use crate::status::Cause;
 use dx_base::Memory;
+use line_forms::Cause;
 
 /// Why a trace is not read.
 #[derive(Clone, Copy, Debug, PartialEq, Eq)]

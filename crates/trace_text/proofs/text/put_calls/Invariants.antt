@@ -1,5 +1,6 @@
 use Rattle.std.proofs.Common.{◌≡◌, ◌++◌, drop, flat_map}
-use Rattle.trace_text.specs.Text.{line_text, call_lines}
+use Rattle.line_forms.specs.Lines.{line_text}
+use Rattle.trace_text.specs.Text.{call_lines}
 use Rattle.trace_text.proofs.text.put_calls.Given as goal
 
 abbrev pub invariant-loop-thread : goal.invariant-loop-thread

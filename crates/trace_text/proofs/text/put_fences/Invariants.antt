@@ -1,5 +1,6 @@
 use Rattle.std.proofs.Common.{◌≡◌, ◌++◌, drop, flat_map}
-use Rattle.trace_text.specs.Text.{line_text, fence_lines}
+use Rattle.line_forms.specs.Lines.{line_text}
+use Rattle.trace_text.specs.Text.{fence_lines}
 use Rattle.trace_text.proofs.text.put_fences.Given as goal
 
 abbrev pub invariant-loop-fence : goal.invariant-loop-fence

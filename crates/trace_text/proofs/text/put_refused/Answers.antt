@@ -1,6 +1,6 @@
 use Rattle.std.proofs.Common.{append_assoc}
 use Rattle.std.proofs.lemmas.Result.{IfOk-equal}
-use Rattle.trace_text.specs.Text.{line_text, rest_of_line}
+use Rattle.line_forms.specs.Lines.{line_text, rest_of_line}
 use Rattle.trace_text.proofs.text.put_refused.Goals as goal
 
 pub returns : goal.returns

@@ -1,5 +1,6 @@
 use Rattle.std.proofs.Common.{◌≡◌, ◌++◌, drop, flat_map}
-use Rattle.trace_text.specs.Text.{line_text, stalled_lines}
+use Rattle.line_forms.specs.Lines.{line_text}
+use Rattle.trace_text.specs.Text.{stalled_lines}
 use Rattle.trace_text.proofs.text.put_stalled.Given as goal
 
 abbrev pub invariant-loop-number : goal.invariant-loop-number

@@ -1,5 +1,6 @@
 use Rattle.std.proofs.Common.{◌≡◌, ◌+◌, ◌≤◌, ◌++◌, drop, flat_map}
-use Rattle.trace_text.specs.Text.{line_text, answer_lines, replies_in}
+use Rattle.line_forms.specs.Lines.{line_text}
+use Rattle.trace_text.specs.Text.{answer_lines, replies_in}
 use Rattle.trace_text.proofs.text.put_thread.Given as goal
 
 abbrev pub invariant-loop-event : goal.invariant-loop-event

@@ -1,7 +1,7 @@
 use Rattle.std.proofs.Common.{◌≡◌, ◌++◌, map, drop, flat_map}
 use Rattle.trace_text.specs.declared.item.Item.TheVariants.{Calls}
-use Rattle.trace_text.specs.Items.{item_text}
-use Rattle.trace_text.proofs.printed_calls.put_calls.Given as goal
+use Rattle.trace_text.specs.Formed.{item_text}
+use Rattle.trace_text.proofs.printed.put_calls.Given as goal
 
 abbrev pub invariant-loop-call : goal.invariant-loop-call
 invariant-loop-call l =

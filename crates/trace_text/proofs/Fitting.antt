@@ -1,0 +1,257 @@
+-- A line is taken whose values, as they are printed, are read back.
+use Rattle.std.proofs.Common.{ℕ, ◌≡◌, ◌<◌, ◌≤◌, ◌^◌, ◌==◌, ◌&&◌, ◌||◌, ◌∙◌, not, nat_le, nat_lt, Bool, true, false, List, [], ◌∷◌, ◌++◌, length, Some, None, Ok, refl, sym, ap, subst, arith, append_assoc}
+use Rattle.std.specs.List.{AllByRecursion, list_all}
+use Rattle.std.proofs.lemmas.Bool.{and_parts, and_from, le-leb, ltb-true}
+use Rattle.std.proofs.lemmas.Bool.Decides.{nat_tests}
+use Rattle.d3d_machine.specs.declared.calls.Call.{Call}
+use Rattle.d3d_machine.specs.World.{is_named}
+use Rattle.trace_words.specs.Lines.{words_of, is_plain, is_plain_byte}
+use Rattle.trace_words.specs.Words.{is_name, is_letter, is_name_byte}
+use Rattle.line_forms.specs.declared.form.Line.{Line}
+use Rattle.line_forms.specs.declared.kind.Kind.{Kind}
+use Rattle.line_forms.specs.declared.kind.Kind.TheVariants as kind
+use Rattle.line_forms.specs.declared.part.PartValue.{PartValue}
+use Rattle.line_forms.specs.Finding.{form_for}
+use Rattle.line_forms.specs.Laws.{AllGood, IsGoodLine, shaped_from, shaped_line}
+use Rattle.line_forms.specs.Lines.{rest_of_line, line_text}
+use Rattle.line_forms.specs.Parts.{Place, Word, Name, NewName, Number, DataWord, FlagWord, Set, Choice, AllOr, AllOrNumber, Row}
+use Rattle.line_forms.specs.Printing.{Known, part_texts, rest_texts, line_words, spaced, joined, text_of}
+use Rattle.line_forms.specs.Reading.{Naming, read_row}
+use Rattle.line_forms.specs.Sound.{is_sound_line, is_named_line}
+use Rattle.line_forms.proofs.Apart.{found_in}
+use Rattle.line_forms.proofs.Good.{prints_back, reads_again}
+use Rattle.line_forms.proofs.PlainWords.{line_of, line_is, IsPlainWord, ArePlain, words_again, are_words, plain_line}
+use Rattle.line_forms.proofs.ShortLines.{line_plain, line_short}
+use Rattle.line_forms.proofs.Tests.{pass, line_from}
+use Rattle.trace_text.specs.declared.form.Class.{Class}
+use Rattle.trace_text.specs.declared.form.Form.{Form}
+use Rattle.trace_text.specs.declared.item.Item.{Item}
+use Rattle.trace_text.specs.declared.item.Item.TheVariants.{Header, Declares, Starts, Calls, Ends}
+use Rattle.trace_text.specs.declared.object.Declared.{Declared}
+use Rattle.trace_text.specs.declared.reading.Reading.{Reading}
+use Rattle.trace_text.specs.Formed.{Formed, item_formed, item_words, item_text}
+use Rattle.trace_text.specs.Forms.{form_row, forms, class_of}
+use Rattle.trace_text.specs.Kinds.{count_of}
+use Rattle.trace_text.specs.Known.{KnownNames, known_names, known_of}
+use Rattle.trace_text.specs.Later.{is_later}
+use Rattle.trace_text.specs.Reading.{is_second, is_misplaced, is_header, fault_of_place, is_over, with_item, object_named, naming_of}
+use Rattle.trace_text.specs.Sound.{is_sound_object, is_sound_call}
+use Rattle.trace_text.specs.Texts.{is_skipped, with_line}
+use Rattle.trace_text.specs.Things.{Names}
+use Rattle.trace_text.specs.WorldOf.{objects_of}
+use Rattle.trace_text.proofs.NamesBack.{AreNamed}
+use Rattle.trace_text.proofs.Own.{item_news, item_class, is_call, own, own_line, counts_in, forms_apart, is_spoken, fine}
+use Rattle.trace_text.proofs.Says.{is_new, new_back, number_back}
+use Rattle.trace_text.proofs.Sound.{IsKept, known_in, are_called, short_names, stands, read_timely}
+use Rattle.trace_text.proofs.SoundWorlds.{queues_are, fences_are, resources_are, allocators_are, lists_are}
+use Rattle.trace_text.proofs.Taking.{Takes, TakesWords, item_reads, item_read_back, taken_line}
+
+-- the line of an item
+abbrev pub printed_line : KnownNames → Item → List ℕ
+printed_line known i = line_of (item_words known i)
+
+-- a line has no fault of place
+pub in_place : (r : Reading) (c : Class) → is_second r c ≡ false → is_misplaced r c ≡ false → (r.begun || is_header c) ≡ true → fault_of_place r c ≡ None
+unfolding fault_of_place
+in_place r c first placed begun = rw (first, placed, begun) refl
+
+-- an item may come next, and its values are read back
+pub record Fits (r : Reading) (known : KnownNames) (i : Item) : Type 0 where
+  pub open_yet : r.ended ≡ false
+  pub place : fault_of_place r (item_class i) ≡ None
+  pub timely : is_later (item_words known i) ≡ false
+  pub good : IsGoodLine (naming_of r.names) (known_of known) (form_row (item_formed i).form) (item_formed i).line
+  pub within : is_over r i ≡ false
+
+-- the words of an item are plain
+item_plain : (names : Names) (known : KnownNames) (i : Item) →
+    IsGoodLine (naming_of names) (known_of known) (form_row (item_formed i).form) (item_formed i).line → ArePlain (item_words known i)
+item_plain names known i good =
+    line_plain (naming_of names) (known_of known) (short_names names) (form_row (item_formed i).form) (item_formed i).line (fine i).plain good
+
+-- a line that begins with a letter is no comment
+not_comment : (b : ℕ) → is_letter b ≡ true → (b == 35) ≡ false
+not_comment b h = grind (arith, nat_tests)
+
+spoken_line : (w : List ℕ) (ws : List (List ℕ)) → is_name w ≡ true → is_skipped (line_of (w ∷ ws)) ≡ false
+unfolding is_name
+spoken_line [] ws h = cc
+spoken_line (b ∷ bs) [] h = not_comment b (and_parts (is_letter b) (list_all is_name_byte bs) h).0
+spoken_line (b ∷ bs) (w ∷ ws) h = not_comment b (and_parts (is_letter b) (list_all is_name_byte bs) h).0
+
+-- words of which the first is a name
+record Begins (ws : List (List ℕ)) : Type 0 where
+  some : 0 < length ws
+  spoken : is_skipped (line_of ws) ≡ false
+
+begins : (n : Naming) (known : Known) (ps : List Place) (vs : List PartValue) (us : List (List ℕ)) → is_spoken ps ≡ true → AllGood n known ps vs →
+    Begins (part_texts known ps vs ++ us)
+unfolding part_texts
+begins n known [] vs us is good = cc
+begins n known (p ∷ ps) [] us is good = absurd good
+begins n known (Word t ∷ ps) (v ∷ vs) us is good = record { some = omega arith; spoken = spoken_line t (part_texts known ps vs ++ us) is }
+begins n known (Name k ∷ ps) (v ∷ vs) us is good = cc
+begins n known (NewName ∷ ps) (v ∷ vs) us is good = cc
+begins n known (Number ∷ ps) (v ∷ vs) us is good = cc
+begins n known (DataWord ∷ ps) (v ∷ vs) us is good = cc
+begins n known (FlagWord ∷ ps) (v ∷ vs) us is good = cc
+begins n known (Set s ∷ ps) (v ∷ vs) us is good = cc
+begins n known (Choice c ∷ ps) (v ∷ vs) us is good = cc
+begins n known (AllOr k ∷ ps) (v ∷ vs) us is good = cc
+begins n known (AllOrNumber ∷ ps) (v ∷ vs) us is good = cc
+
+item_begins : (names : Names) (known : KnownNames) (i : Item) →
+    IsGoodLine (naming_of names) (known_of known) (form_row (item_formed i).form) (item_formed i).line → Begins (item_words known i)
+unfolding line_words
+item_begins names known i good =
+    begins (naming_of names) (known_of known) (form_row (item_formed i).form).parts (item_formed i).line.values
+    (rest_texts (known_of known) (form_row (item_formed i).form).rest (item_formed i).line.rest) (fine i).spoken good.values
+
+-- its form is found
+item_found : (names : Names) (known : KnownNames) (i : Item) →
+    IsGoodLine (naming_of names) (known_of known) (form_row (item_formed i).form) (item_formed i).line →
+    form_for form_row forms (item_words known i) ≡ Some (item_formed i).form
+unfolding line_words
+item_found names known i good =
+    found_in (naming_of names) (known_of known) form_row forms (own i).place.0 (item_formed i).form (item_formed i).line.values (item_formed i).line.rest
+    forms_apart (own i).place.1 good.values
+
+-- a line of words is cut into them
+words_back : (ws : List (List ℕ)) → 0 < length ws → ArePlain ws → words_of (line_of ws) ≡ ws
+words_back [] some all = absurd (omega (arith, some))
+words_back (w ∷ ws) some all = words_again w ws all.0.one (are_words ws all.1)
+
+-- its bytes are plain
+bytes_plain : (ws : List (List ℕ)) → 0 < length ws → ArePlain ws → list_all is_plain_byte (line_of ws) ≡ true
+bytes_plain [] some all = absurd (omega (arith, some))
+bytes_plain (w ∷ ws) some all = plain_line w ws all.0 all.1
+
+pub item_bytes : (names : Names) (known : KnownNames) (i : Item) →
+    IsGoodLine (naming_of names) (known_of known) (form_row (item_formed i).form) (item_formed i).line → list_all is_plain_byte (printed_line known i) ≡ true
+item_bytes names known i good = bytes_plain (item_words known i) (item_begins names known i good).some (item_plain names known i good)
+
+-- the line is taken
+pub item_taken : (r : Reading) (known : KnownNames) (i : Item) → Fits r known i → length (printed_line known i) ≤ 4096 →
+    with_line r (printed_line known i) ≡ Ok (with_item r i)
+unfolding is_plain
+item_taken r known i fits short =
+    let begin = item_begins r.names known i fits.good in
+    let plain = item_plain r.names known i fits.good in
+    let reads = prints_back.reads (naming_of r.names) (known_of known) (form_row (item_formed i).form) (item_formed i).line fits.good in
+    taken_line r (with_item r i) (printed_line known i) (record {
+      ws = item_words known i;
+      plain = and_from (nat_le (length (printed_line known i)) 4096) (list_all is_plain_byte (printed_line known i))
+          (le-leb (length (printed_line known i)) 4096 short) (item_bytes r.names known i fits.good);
+      open_yet = fits.open_yet;
+      spoken = begin.spoken;
+      words = words_back (item_words known i) begin.some plain;
+      others = record {
+        form = (item_formed i).form;
+        item = i;
+        in_time = fits.timely;
+        found = item_found r.names known i fits.good;
+        in_place = subst (λ c. fault_of_place r c ≡ None) (sym (own i).class_is) fits.place;
+        means = item_read_back r.names (item_words known i) i reads;
+        within = fits.within;
+        becomes = refl;
+      };
+    })
+
+-- a line that was taken fits as it is printed
+pub fits_again : (r s : Reading) (line : List ℕ) → IsKept r → (t : Takes r line s) → Fits r (known_in r) t.others.item
+fits_again r s line kept t =
+    let taken = t.others in
+    let i = taken.item in
+    let row = form_row (item_formed i).form in
+    let read = item_reads r.names taken.form t.ws i taken.means in
+    let class_is : class_of taken.form ≡ item_class i = ap class_of read.form_is ∙ (own i).class_is in
+    record {
+      open_yet = t.open_yet;
+      place = subst (λ c. fault_of_place r c ≡ None) class_is taken.in_place;
+      timely = (own i).timely (known_in r) (read_timely r kept t.ws taken.in_time i read.reads);
+      good = reads_again.good (naming_of r.names) (known_of (known_in r)) (are_called r.names r.declared kept.placed) row t.ws (item_formed i).line read.reads;
+      within = taken.within;
+    }
+
+-- and it is as short
+pub short_again : (r s : Reading) (line : List ℕ) → IsKept r → (t : Takes r line s) → length (line_of t.ws) ≤ 4096 →
+    length (printed_line (known_in r) t.others.item) ≤ 4096
+short_again r s line kept t short =
+    let i = t.others.item in
+    let read = item_reads r.names t.others.form t.ws i t.others.means in
+    line_short (naming_of r.names) (known_of (known_in r)) (are_called r.names r.declared kept.placed) (short_names r.names)
+    (form_row (item_formed i).form) t.ws (item_formed i).line (fine i).plain (fine i).short read.reads short
+
+-- the name of an object is read as its number
+called : (r : Reading) (ss : List (List Call)) → AreNamed r.names r.declared → (k : Kind) (i : ℕ) →
+    nat_lt i (counts_in (record (objects_of r.declared) { scripts = ss }) k) ≡ true →
+    object_named r.names k (known_of (known_in r) k i) ≡ Ok i
+called r ss named kind.Queue i h =
+    number_back r.names kind.Queue i (known_of (known_in r) kind.Queue i)
+    (named kind.Queue i (omega (arith, queues_are r.declared, ltb-true i (length (objects_of r.declared).queues) h)))
+called r ss named kind.Fence i h =
+    number_back r.names kind.Fence i (known_of (known_in r) kind.Fence i)
+    (named kind.Fence i (omega (arith, fences_are r.declared, ltb-true i (length (objects_of r.declared).fences) h)))
+called r ss named kind.Resource i h =
+    number_back r.names kind.Resource i (known_of (known_in r) kind.Resource i)
+    (named kind.Resource i (omega (arith, resources_are r.declared, ltb-true i (length (objects_of r.declared).resources) h)))
+called r ss named kind.Allocator i h =
+    number_back r.names kind.Allocator i (known_of (known_in r) kind.Allocator i)
+    (named kind.Allocator i (omega (arith, allocators_are r.declared, ltb-true i (length (objects_of r.declared).allocators) h)))
+called r ss named kind.List i h =
+    number_back r.names kind.List i (known_of (known_in r) kind.List i)
+    (named kind.List i (omega (arith, lists_are r.declared, ltb-true i (length (objects_of r.declared).lists) h)))
+called r ss named kind.Thread i h = absurd (omega (arith, ltb-true i 0 h))
+
+-- an item's values are of their parts' kinds
+item_shaped : (i : Item) → shaped_line (form_row (item_formed i).form) (item_formed i).line ≡ (item_formed i).line
+item_shaped i =
+    let f = (item_formed i).form in
+    let line = (item_formed i).line in
+    let whole : item_formed i ≡ record { form = f; line = shaped_line (form_row f) line } = ap item_formed (sym (own i).makes) ∙ own_line f line in
+    sym (ap (λ (g : Formed). g.line) whole)
+
+-- words, each behind a space, and the end of a line
+spaced_rest : (ws us : List (List ℕ)) → spaced ws ++ rest_of_line us ≡ rest_of_line (ws ++ us)
+unfolding spaced rest_of_line
+spaced_rest [] us = refl
+spaced_rest (w ∷ ws) us = ap (λ more. 32 ∷ more) (append_assoc w (spaced ws) (rest_of_line us) ∙ ap (λ more. w ++ more) (spaced_rest ws us))
+
+text_words : (ws us : List (List ℕ)) → 0 < length ws → joined ws ++ rest_of_line us ≡ line_of (ws ++ us) ++ 10 ∷ []
+unfolding joined line_text
+text_words [] us some = absurd (omega (arith, some))
+text_words (w ∷ ws) us some = append_assoc w (spaced ws) (rest_of_line us) ∙ (ap (λ more. w ++ more) (spaced_rest ws us) ∙ line_is w (ws ++ us))
+
+texts_some : (known : Known) (ps : List Place) (vs : List PartValue) → is_spoken ps ≡ true → shaped_from 0 ps vs ≡ vs → 0 < length (part_texts known ps vs)
+unfolding part_texts
+texts_some known [] vs is same = cc
+texts_some known (p ∷ ps) [] is same = cc
+texts_some known (p ∷ ps) (v ∷ vs) is same = omega arith
+
+-- the text of an item is its line, and then a line feed
+pub item_line : (known : KnownNames) (i : Item) → item_text known i ≡ printed_line known i ++ 10 ∷ []
+unfolding item_text text_of line_words
+item_line known i =
+    let row = form_row (item_formed i).form in
+    let line = (item_formed i).line in
+    text_words (part_texts (known_of known) row.parts line.values) (rest_texts (known_of known) row.rest line.rest)
+    (texts_some (known_of known) row.parts line.values (fine i).spoken (ap (λ (x : Line). x.values) (item_shaped i)))
+
+-- a call whose values are sound and name objects is read back
+pub call_good : (r : Reading) (c : Call) (ss : List (List Call)) → AreNamed r.names r.declared → is_sound_call c ≡ true →
+    is_named_line (counts_in (record (objects_of r.declared) { scripts = ss })) (known_of (known_in r)) (form_row (item_formed (Calls c)).form)
+    (item_formed (Calls c)).line ≡ true →
+    IsGoodLine (naming_of r.names) (known_of (known_in r)) (form_row (item_formed (Calls c)).form) (item_formed (Calls c)).line
+call_good r c ss named sound names =
+    line_from (naming_of r.names) (known_of (known_in r)) (counts_in (record (objects_of r.declared) { scripts = ss })) (is_new r.names) (called r ss named)
+    (λ m h. new_back r.names m h) (form_row (item_formed (Calls c)).form) (item_formed (Calls c)).line (item_shaped (Calls c)) sound names
+    (subst (λ bs. pass bs ≡ true) (sym ((own (Calls c)).news (is_new r.names))) refl)
+
+-- an item that is no call names no object; where its values are sound and its name is new, it is read back
+pub item_good : (r : Reading) (known : KnownNames) (i : Item) → is_call i ≡ false → is_sound_line (form_row (item_formed i).form) (item_formed i).line ≡ true →
+    pass (item_news (is_new r.names) i) ≡ true →
+    IsGoodLine (naming_of r.names) (known_of known) (form_row (item_formed i).form) (item_formed i).line
+item_good r known i alone sound new =
+    line_from (naming_of r.names) (known_of known) (λ k. 0) (is_new r.names) (λ k j below. absurd (omega (arith, ltb-true j 0 below)))
+    (λ m h. new_back r.names m h) (form_row (item_formed i).form) (item_formed i).line (item_shaped i) sound ((own i).alone alone (λ k. 0) (known_of known))
+    (subst (λ bs. pass bs ≡ true) (sym ((own i).news (is_new r.names))) new)
