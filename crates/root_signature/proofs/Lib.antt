@@ -1,0 +1,6 @@
+pub mod Steps
+pub mod Coverage
+pub mod Beginnings
+pub mod FirstPlaces
+pub mod Found
+pub mod Sound
