@@ -80,9 +80,9 @@ some_covers [] class register h = absurd (omega arith)
 some_covers (x ∷ xs) class register h = elim (cases_Bool (covers x class register)) [
   | inl e ↦ record { range = x; among = λ test t. or_left (test x) (list_any test xs) t; here = e }
   | inr e ↦
-    let n = count_not_here x xs class register e in
-    let rest = some_covers xs class register (omega arith) in
-    record { range = rest.range; among = λ test t. or_right (test x) (list_any test xs) (rest.among test t); here = rest.here }
+      let n = count_not_here x xs class register e in
+      let rest = some_covers xs class register (omega arith) in
+      record { range = rest.range; among = λ test t. or_right (test x) (list_any test xs) (rest.among test t); here = rest.here }
 ]
 
 any_counts : (xs : List Range) (class : Class) (register : ℕ) → list_any (λ x. covers x class register) xs ≡ true → 0 < count_covers class register xs
@@ -90,9 +90,9 @@ any_counts [] class register h = absurd (cc)
 any_counts (x ∷ xs) class register h = elim (or_cases (covers x class register) (list_any (λ y. covers y class register) xs) h) [
   | inl e ↦ let n = count_here x xs class register e in omega arith
   | inr e ↦
-    let n = any_counts xs class register e in
-    let m = count_more x xs class register in
-    omega arith
+      let n = any_counts xs class register e in
+      let m = count_more x xs class register in
+      omega arith
 ]
 
 -- a range of a list at whose first register two of them are
@@ -108,13 +108,13 @@ first_and_later x xs class register here later =
     let y = later.range in
     elim (cases_lt y.register x.register) [
       | inl before ↦
-        let both = any_counts xs x.class x.register (later.among (λ z. covers z x.class x.register) (covers_first y x class register later.here here (omega arith))) in
-        let one = count_here x xs x.class x.register (covers_first x x class register here here (omega arith)) in
-        record { range = x; among = λ test t. or_left (test x) (list_any test xs) t; twice = omega arith }
+          let both = any_counts xs x.class x.register (later.among (λ z. covers z x.class x.register) (covers_first y x class register later.here here (omega arith))) in
+          let one = count_here x xs x.class x.register (covers_first x x class register here here (omega arith)) in
+          record { range = x; among = λ test t. or_left (test x) (list_any test xs) t; twice = omega arith }
       | inr before ↦
-        let both = any_counts xs y.class y.register (later.among (λ z. covers z y.class y.register) (covers_first y y class register later.here later.here (omega arith))) in
-        let one = count_here x xs y.class y.register (covers_first x y class register here later.here before) in
-        record { range = y; among = λ test t. or_right (test x) (list_any test xs) (later.among test t); twice = omega arith }
+          let both = any_counts xs y.class y.register (later.among (λ z. covers z y.class y.register) (covers_first y y class register later.here later.here (omega arith))) in
+          let one = count_here x xs y.class y.register (covers_first x y class register here later.here before) in
+          record { range = y; among = λ test t. or_right (test x) (list_any test xs) (later.among test t); twice = omega arith }
     ]
 
 -- where a register is covered twice, a range begins at such a register
@@ -122,12 +122,12 @@ pub begins_twice : (xs : List Range) (class : Class) (register : ℕ) → 1 < co
 begins_twice [] class register h = absurd (omega arith)
 begins_twice (x ∷ xs) class register h = elim (cases_Bool (covers x class register)) [
   | inl e ↦
-    let n = count_here x xs class register e in
-    first_and_later x xs class register e (some_covers xs class register (omega arith))
+      let n = count_here x xs class register e in
+      first_and_later x xs class register e (some_covers xs class register (omega arith))
   | inr e ↦
-    let n = count_not_here x xs class register e in
-    let rest = begins_twice xs class register (omega arith) in
-    let more = count_more x xs rest.range.class rest.range.register in
-    let twice = rest.twice in
-    record { range = rest.range; among = λ test t. or_right (test x) (list_any test xs) (rest.among test t); twice = omega arith }
+      let n = count_not_here x xs class register e in
+      let rest = begins_twice xs class register (omega arith) in
+      let more = count_more x xs rest.range.class rest.range.register in
+      let twice = rest.twice in
+      record { range = rest.range; among = λ test t. or_right (test x) (list_any test xs) (rest.among test t); twice = omega arith }
 ]

@@ -45,9 +45,9 @@ count_append class register (x ∷ xs) ys =
     let rest = count_append class register xs ys in
     one_more (covers x class register) _ _ _ rest
   where
-  one_more : (b : Bool) (n k l : ℕ) → n ≡ k + l → cond b (1 + n) n ≡ cond b (1 + k) k + l
-  one_more true n k l e = omega arith
-  one_more false n k l e = e
+    one_more : (b : Bool) (n k l : ℕ) → n ≡ k + l → cond b (1 + n) n ≡ cond b (1 + k) k + l
+    one_more true n k l e = omega arith
+    one_more false n k l e = e
 
 -- parameters have as many places for a register as ranges of theirs cover it
 pub length_from : (number : ℕ) (params : List Param) (class : Class) (register : ℕ) →

@@ -42,5 +42,5 @@ found_of_twice params twice =
     let h : 1 < count_covers twice.class twice.register ranges = subst (λ n. 1 < n) (length_from 0 params twice.class twice.register) twice.twice in
     let begins = begins_twice ranges twice.class twice.register h in
     let at : 1 < length (places_of params begins.range.class begins.range.register) =
-        subst (λ n. 1 < n) (sym (length_from 0 params begins.range.class begins.range.register)) begins.twice in
+    subst (λ n. 1 < n) (sym (length_from 0 params begins.range.class begins.range.register)) begins.twice in
     sym (any_range (begins_at_two params) params) ∙ begins.among (begins_at_two params) (lt-ltb 1 _ at)

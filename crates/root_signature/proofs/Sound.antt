@@ -10,6 +10,7 @@ use Rattle.root_signature.specs.declared.places.Place.{Place}
 use Rattle.root_signature.specs.declared.ranges.Range.{Range}
 use Rattle.root_signature.specs.declared.versions.Version.{Version}
 use Rattle.root_signature.specs.Costs.{cost_of, cost_of_param, costs_too_much, has_few_constants}
+use Rattle.root_signature.specs.Laws.{IsSound}
 use Rattle.root_signature.specs.Flags.{has_descriptor_flag}
 use Rattle.root_signature.specs.Places.{places_of}
 use Rattle.root_signature.specs.Ranges.{ranges_of, range_of_constants, range_of_root}
@@ -68,13 +69,7 @@ module _ (version : Version) where
       let rest = params_cost params parts.1 in
       omega arith
 
--- what holds of a signature that is not refused
-pub record IsSound (params : List Param) : Type 0 where
-  pub few : length params ≤ 64
-  pub cost : cost_of params ≤ 64
-  pub inside : list_any (λ param. list_any passes_registers (ranges_of param)) params ≡ false
-  pub apart : (class : Class) (register : ℕ) → length (places_of params class register) ≤ 1
-
+-- what holds of it
 pub sound : (version : Version) (params : List Param) → (IsRefused version params → ⊥) → IsSound params
 sound version params good =
     let cheap : costs_too_much params ≡ false = false_from_ne_true (costs_too_much params) (λ h. good (inl h)) in

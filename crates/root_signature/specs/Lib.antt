@@ -4,3 +4,4 @@ pub mod Costs
 pub mod Places
 pub mod Refusals
 pub mod SignatureView
+pub mod Laws

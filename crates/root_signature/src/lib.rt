@@ -5,11 +5,14 @@
 mod costs;
 mod fixities;
 mod flags;
+mod laws;
 mod params;
 mod places;
 mod ranges;
 mod refusals;
 mod signatures;
+#[cfg(test)]
+mod tests;
 mod twice;
 mod versions;
 
@@ -19,6 +22,7 @@ pub use flags::{
     DATA_STATIC, DATA_STATIC_WHILE_SET_AT_EXECUTE, DATA_VOLATILE,
     DESCRIPTORS_STATIC_KEEPING_BUFFER_BOUNDS_CHECKS, DESCRIPTORS_VOLATILE, effective,
 };
+pub use laws::signatures_are_sound;
 pub use params::Param;
 pub use places::Place;
 pub use ranges::Range;

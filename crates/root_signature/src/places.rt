@@ -66,12 +66,22 @@ fn place_in_param(number: u32, param: &Param, class: Class, register: u32) -> Op
         Param::Const {
             register: first,
             count,
-        } => place_in_ranges(number, &[Range::of_constants(*first, *count)], class, register),
+        } => place_in_ranges(
+            number,
+            &[Range::of_constants(*first, *count)],
+            class,
+            register,
+        ),
         Param::Root {
             class: of,
             register: first,
             flags,
-        } => place_in_ranges(number, &[Range::of_root(*of, *first, *flags)], class, register),
+        } => place_in_ranges(
+            number,
+            &[Range::of_root(*of, *first, *flags)],
+            class,
+            register,
+        ),
         Param::Table { ranges } => place_in_ranges(number, ranges.as_slice(), class, register),
     }
 }

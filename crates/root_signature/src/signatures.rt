@@ -7,6 +7,7 @@ ghost use Rattle.root_signature.specs.declared.signatures.BuildFault.TheVariants
 ghost use Rattle.root_signature.specs.Costs.{costs_too_much};
 ghost use Rattle.root_signature.specs.Places.{places_of};
 ghost use Rattle.root_signature.specs.Refusals.{is_refused_param, IsRefused};
+ghost use Rattle.root_signature.specs.SignatureView.{IsSignature};
 
 use crate::costs::cost;
 use crate::params::Param;
@@ -26,14 +27,13 @@ pub struct Signature {
 }
 
 impl Model for Signature {
-    ghost use Rattle.root_signature.specs.SignatureView.{SignatureView};
-    ghost use Rattle.root_signature.specs.Refusals.{IsRefused};
+    ghost use Rattle.root_signature.specs.SignatureView.{SignatureView, IsSignature};
 
     ghost Value = { SignatureView };
 
     ghost view = { λ it. record { version = it.version; params = it.params } };
 
-    ghost invariant = { λ it. IsRefused it.version it.params → ⊥ };
+    ghost invariant = { λ it. IsSignature (record { version = it.version; params = it.params }) };
 }
 
 /// Why no signature is made.
@@ -71,9 +71,7 @@ fn has_refused_param(version: Version, params: &[Param]) -> bool
 fn is_refused(version: Version, params: &[Param]) -> bool
     ensures { IsTrue result ↔ IsRefused version params.now }
 {
-    costs_too_much(params)
-        || has_refused_param(version, params)
-        || covers_twice(params)
+    costs_too_much(params) || has_refused_param(version, params) || covers_twice(params)
 }
 
 /// The same parameters.
@@ -117,7 +115,8 @@ impl Signature {
 
     /// The parameters that `build` was given.
     pub fn params(&self) -> &[Param]
-        ensures { result.now ≡ self.now.params }
+        ensures value { result.now ≡ self.now.params }
+        ensures valid { IsSignature self.now }
     {
         self.params.as_slice()
     }
@@ -125,8 +124,7 @@ impl Signature {
     /// The one place of a register of a class. None exactly where no parameter covers it. It takes time that
     /// grows with the parameters and their ranges, and not with the registers of a range.
     pub fn place(&self, class: Class, register: u32) -> Option<Place>
-        ensures value { places_of self.now.params class register ≡ option_to_list result }
-        ensures valid { IsRefused self.now.version self.now.params → ⊥ }
+        ensures { places_of self.now.params class register ≡ option_to_list result }
     {
         first_place_in(self.params.as_slice(), class, register)
     }

@@ -57,9 +57,7 @@ fn is_covered_twice(params: &[Param], class: Class, register: u32) -> bool
 fn has_covered_twice(params: &[Param], ranges: &[Range]) -> bool
     ensures { result ≡ list_any (λ range. nat_lt 1 (length (places_of params.now range.class range.register))) ranges.now }
 {
-    ranges
-        .iter()
-        .any(|range| is_covered_twice(params, range.class, range.register))
+    ranges.iter().any(|range| is_covered_twice(params, range.class, range.register))
 }
 
 /// Whether a range of a parameter begins at a register that two parameters or ranges cover.
@@ -69,7 +67,9 @@ fn begins_covered_twice(params: &[Param], param: &Param) -> bool
     match param {
         Param::Const { register, .. } => is_covered_twice(params, Class::Cbv, *register),
         Param::Root {
-            class, register, ..
+            class,
+            register,
+            ..
         } => is_covered_twice(params, *class, *register),
         Param::Table { ranges } => has_covered_twice(params, ranges.as_slice()),
     }

@@ -2,7 +2,6 @@
 use Rattle.std.proofs.Common.{◌≡◌, ◌∙◌, arith, ap, subst, slice_get}
 use Rattle.std.specs.Option.{option_to_list}
 use Rattle.root_signature.specs.Places.{places_of}
-use Rattle.root_signature.specs.Refusals.{IsRefused}
 use Rattle.root_signature.proofs.Sound.{sound, one_place}
 use Rattle.root_signature.proofs.signatures.Signature.place.Goals as goal
 
@@ -14,12 +13,9 @@ first_place_in-requires-clause-few c =
 pub first_place_in-requires-clause-small : goal.first_place_in-requires-clause-small
 first_place_in-requires-clause-small c = rw c.as_slice.ensures (sound c.self.inside.version c.self.inside.params c.self.invariant).inside
 
-pub returns-clause-value : goal.returns-clause-value
-returns-clause-value c =
+pub returns : goal.returns
+returns c =
     let first = c.first_place_in.ensures ∙ ap (λ xs. slice_get (places_of xs c.args.class c.args.register) 0) c.as_slice.ensures in
     let apart = (sound c.self.inside.version c.self.inside.params c.self.invariant).apart c.args.class c.args.register in
     subst (λ v. places_of v.params c.args.class c.args.register ≡ option_to_list c.first_place_in.result) c.self.view_is
     (one_place (places_of c.self.inside.params c.args.class c.args.register) c.first_place_in.result first apart)
-
-pub returns-clause-valid : goal.returns-clause-valid
-returns-clause-valid c = subst (λ v. IsRefused v.version v.params → ⊥) c.self.view_is c.self.invariant
