@@ -1,0 +1,3 @@
+pub mod ReadUnions
+pub mod Promotions
+pub mod Decays
