@@ -29,7 +29,7 @@ pub union_is_valid : (state other : State) → is_read_state state ≡ true → 
 unfolding joins_well
 union_is_valid state other first second =
     let all : joins_well state.0 other.0 ≡ true =
-        at_below 31 (joins_well state.0) (at_below 31 (λ n. all_below 31 (joins_well n)) refl state.0 (read_is_small state first)) other.0 (read_is_small other second) in
+    at_below 31 (joins_well state.0) (at_below 31 (λ n. all_below 31 (joins_well n)) refl state.0 (read_is_small state first)) other.0 (read_is_small other second) in
     let reads : ((state_bits state.0 && (bit_and 30 state.0 == state.0)) && (state_bits other.0 && (bit_and 30 other.0 == other.0))) ≡ true =
-        rw (sym (state_by_bits state), sym (state_by_bits other), first, second) refl in
+    rw (sym (state_by_bits state), sym (state_by_bits other), first, second) refl in
     state_by_bits (joined state other) ∙ implied _ _ all reads

@@ -5,11 +5,17 @@ use dx_base::ListType;
 use dx_flags::State;
 
 const COMMON: State = State::COMMON;
+
 const CONSTANTS: State = State::VERTEX_AND_CONSTANT_BUFFER;
+
 const SHADER: State = State::NON_PIXEL_SHADER_RESOURCE;
+
 const PIXEL: State = State::PIXEL_SHADER_RESOURCE;
+
 const SOURCE: State = State::COPY_SOURCE;
+
 const DEST: State = State::COPY_DEST;
+
 const WRITES: State = State::UNORDERED_ACCESS;
 
 /// Both shader states.
@@ -24,14 +30,26 @@ const MORE: State = State(State::VERTEX_AND_CONSTANT_BUFFER.0 | State::COPY_SOUR
 /// A kind, a state and whether an access brought it, a need, and the state after with the same, if there is one.
 const PROMOTIONS: [(Kind, State, bool, State, Option<(State, bool)>); 39] = [
     // From COMMON a buffer goes anywhere.
-    (Kind::Buffer, COMMON, false, CONSTANTS, Some((CONSTANTS, true))),
+    (
+        Kind::Buffer,
+        COMMON,
+        false,
+        CONSTANTS,
+        Some((CONSTANTS, true)),
+    ),
     (Kind::Buffer, COMMON, false, SHADER, Some((SHADER, true))),
     (Kind::Buffer, COMMON, false, SOURCE, Some((SOURCE, true))),
     (Kind::Buffer, COMMON, false, DEST, Some((DEST, true))),
     (Kind::Buffer, COMMON, false, WRITES, Some((WRITES, true))),
     (Kind::Buffer, COMMON, false, COMMON, Some((COMMON, false))),
     // So does a shared texture.
-    (Kind::Shared, COMMON, false, CONSTANTS, Some((CONSTANTS, true))),
+    (
+        Kind::Shared,
+        COMMON,
+        false,
+        CONSTANTS,
+        Some((CONSTANTS, true)),
+    ),
     (Kind::Shared, COMMON, false, DEST, Some((DEST, true))),
     (Kind::Shared, COMMON, false, WRITES, Some((WRITES, true))),
     // A plain one is read by shaders and copied, and neither written by shaders nor read as constants.
@@ -46,7 +64,13 @@ const PROMOTIONS: [(Kind, State, bool, State, Option<(State, bool)>); 39] = [
     (Kind::Plain, SHADERS, false, PIXEL, Some((SHADERS, false))),
     (Kind::Plain, WRITES, false, WRITES, Some((WRITES, false))),
     (Kind::Plain, DEST, true, DEST, Some((DEST, true))),
-    (Kind::Buffer, State::GENERIC_READ, false, CONSTANTS, Some((State::GENERIC_READ, false))),
+    (
+        Kind::Buffer,
+        State::GENERIC_READ,
+        false,
+        CONSTANTS,
+        Some((State::GENERIC_READ, false)),
+    ),
     // A promoted read state is joined with a further read.
     (Kind::Buffer, SOURCE, true, SHADER, Some((READS, true))),
     (Kind::Buffer, SOURCE, true, CONSTANTS, Some((MORE, true))),

@@ -1,5 +1,5 @@
 -- How many places a register has, counted by ranges.
-use Rattle.std.proofs.Common.{◌≡◌, ℕ, ◌+◌, ◌-◌, ◌<◌, ◌≤◌, Bool, true, false, cond, List, [], ◌∷◌, ◌++◌, length, get_or, drop, refl, sym, ap, ◌∙◌, arith, zero-add, add_assoc}
+use Rattle.std.proofs.Common.{◌≡◌, ℕ, ◌+◌, ◌-◌, ◌<◌, Bool, true, false, cond, List, [], ◌∷◌, ◌++◌, length, get_or, drop, refl, sym, ap, ◌∙◌, arith, zero-add}
 use Rattle.std.proofs.lemmas.List.{length-append}
 use Rattle.std.proofs.lemmas.List.Recursion.{is_count_by}
 use Rattle.std.specs.List.{count_by, flat_map}
@@ -7,7 +7,7 @@ use Rattle.dx_base.specs.declared.kinds.Class.{Class}
 use Rattle.root_signature.specs.declared.params.Param.{Param}
 use Rattle.root_signature.specs.declared.places.Place.{Place}
 use Rattle.root_signature.specs.declared.ranges.Range.{Range}
-use Rattle.root_signature.specs.Places.{first_place, next_place, places_in_range, places_in_ranges, places_in_param, places_from, places_of}
+use Rattle.root_signature.specs.Places.{first_place, next_place, places_in_ranges, places_in_param, places_from}
 use Rattle.root_signature.specs.Ranges.{covers, ranges_of}
 use Rattle.root_signature.proofs.Steps.{next_item}
 

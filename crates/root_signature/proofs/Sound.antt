@@ -1,9 +1,8 @@
 -- What holds of a signature that is not refused.
-use Rattle.std.proofs.Common.{◌≡◌, ℕ, suc, ◌+◌, ◌*◌, ◌<◌, ◌≤◌, Bool, true, false, ◌||◌, nat_lt, List, [], ◌∷◌, length, refl, ap, arith, inl, inr, Option, slice_get}
+use Rattle.std.proofs.Common.{◌≡◌, ◌*◌, ◌≤◌, true, false, ◌||◌, List, [], ◌∷◌, length, refl, arith, inl, inr, Option, slice_get}
 use Rattle.std.proofs.lemmas.Bool.{or_parts, ltb-false, cases_lt, false_from_ne_true, leb-true, and_parts, eqb-false}
 use Rattle.std.specs.List.{list_any, list_all}
 use Rattle.std.specs.Option.{option_to_list}
-use Rattle.dx_base.specs.declared.kinds.Class.{Class}
 use Rattle.root_signature.specs.declared.params.Param.{Param}
 use Rattle.root_signature.specs.declared.params.Param.TheVariants.{Const, Root, Table}
 use Rattle.root_signature.specs.declared.places.Place.{Place}

@@ -1,6 +1,5 @@
 -- What root signatures cost.
 use Rattle.std.specs.Prelude.{ℕ, ◌+◌, nat_le, nat_lt, Bool, true, List, [], ◌∷◌}
-use Rattle.dx_base.specs.declared.kinds.Class.{Class}
 use Rattle.root_signature.specs.declared.params.Param.{Param}
 use Rattle.root_signature.specs.declared.params.Param.TheVariants.{Const, Root, Table}
 

@@ -1,5 +1,5 @@
 -- Flag words, and what they promise.
-use Rattle.std.specs.Prelude.{ℕ, ◌==◌, ◌&&◌, ◌||◌, not, cond, bit_and, Bool, true, false}
+use Rattle.std.specs.Prelude.{ℕ, ◌==◌, ◌&&◌, ◌||◌, not, cond, bit_and, Bool, false}
 use Rattle.dx_base.specs.declared.kinds.Class.{Class}
 use Rattle.dx_base.specs.declared.kinds.Class.TheVariants.{Cbv, Srv, Uav}
 use Rattle.root_signature.specs.declared.flags.TheConstants.{DESCRIPTORS_VOLATILE, DATA_VOLATILE, DATA_STATIC_WHILE_SET_AT_EXECUTE, DATA_STATIC, DESCRIPTORS_STATIC_KEEPING_BUFFER_BOUNDS_CHECKS}

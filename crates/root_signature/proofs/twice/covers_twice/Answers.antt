@@ -1,5 +1,5 @@
 -- What is found at the first registers of all ranges holds of all registers.
-use Rattle.std.proofs.Common.{◌≡◌, ◌∙◌, sym}
+use Rattle.std.proofs.Common.{◌∙◌, sym}
 use Rattle.root_signature.proofs.Found.{twice_of_found, found_of_twice}
 use Rattle.root_signature.proofs.twice.covers_twice.Goals as goal
 

@@ -1,5 +1,5 @@
 -- A parameter's places and those behind it.
-use Rattle.std.proofs.Common.{◌<◌, ◌+◌, length, arith, sym}
+use Rattle.std.proofs.Common.{arith, sym}
 use Rattle.std.proofs.lemmas.Bool.{lt-ltb}
 use Rattle.root_signature.proofs.Coverage.{more_places}
 use Rattle.root_signature.proofs.twice.is_covered_twice.Goals as goal
