@@ -1,0 +1,12 @@
+pub mod Carried
+pub mod Fresh
+pub mod Ahead
+pub mod Scopes
+pub mod Knowing
+pub mod Covers
+pub mod Opening
+pub mod Rest
+pub mod Apart
+pub mod Later
+pub mod Judging
+pub mod Replies

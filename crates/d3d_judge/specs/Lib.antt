@@ -1,0 +1,10 @@
+pub mod Commands
+pub mod Moves
+pub mod Carried
+pub mod Setting
+pub mod Touches
+pub mod Scopes
+pub mod Judged
+pub mod Covering
+pub mod Ahead
+pub mod Laws

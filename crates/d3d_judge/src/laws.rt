@@ -1,0 +1,98 @@
+//! Laws of clocks, of scopes and of the judge. The functions do nothing.
+
+ghost use Rattle.d3d_judge.specs.Laws.{StaySound, ClocksAreSound, LoadsAreFresh, StoresAreFresh, KnowAhead};
+ghost use Rattle.d3d_judge.specs.Laws.{CleanExecutesKnow, CleanClocksAre, BrokenStays, RepliesPlayNoPart};
+ghost use Rattle.d3d_judge.specs.Laws.{OfScopes, BreakNothing, ScopesCover, ChangesReach, AccessesAreAllowed, OpenedAreAll, CommandsApart, PlacesCount, LaterCovers};
+
+/// The clocks of a history know only calls that were made and operations that are complete.
+#[tactic(none)]
+pub fn clocks_are_sound()
+    ensures stay { StaySound }
+    ensures of_histories { ClocksAreSound }
+{}
+
+/// Right after a host access no clock but that of its thread knows the call.
+#[tactic(none)]
+pub fn host_accesses_are_fresh()
+    ensures loads { LoadsAreFresh }
+    ensures stores { StoresAreFresh }
+{}
+
+/// What operations that complete from now on know beyond what is complete, they know through one another alone.
+#[tactic(none)]
+pub fn operations_know_ahead_through_one_another()
+    ensures { KnowAhead }
+{}
+
+/// Where the verdict is clean after an execute completed, the execute knows each earlier touch that meets one of
+/// its own.
+#[tactic(none)]
+pub fn clean_executes_know()
+    ensures { CleanExecutesKnow }
+{}
+
+/// Of a clean verdict the judge's clocks are those of the history.
+#[tactic(none)]
+pub fn clean_clocks_are_those_of_the_history()
+    ensures { CleanClocksAre }
+{}
+
+/// A broken verdict stays, with its rule and its event.
+#[tactic(none)]
+pub fn a_broken_verdict_stays()
+    ensures { BrokenStays }
+{}
+
+/// No reply plays a part, and so no word that was read.
+#[tactic(none)]
+pub fn replies_play_no_part()
+    ensures { RepliesPlayNoPart }
+{}
+
+/// At each place of a clean scope no rule is broken.
+#[tactic(none)]
+pub fn a_clean_scope_breaks_nothing()
+    ensures { OfScopes BreakNothing }
+{}
+
+/// In a clean scope each earlier access that meets one of a command has a barrier between that covers it.
+#[tactic(none)]
+pub fn a_clean_scope_covers()
+    ensures { OfScopes ScopesCover }
+{}
+
+/// In a clean scope a layout change reaches each earlier access of its words.
+#[tactic(none)]
+pub fn layout_changes_reach()
+    ensures { OfScopes ChangesReach }
+{}
+
+/// In a clean scope each access is allowed, and reads no lost word.
+#[tactic(none)]
+pub fn accesses_are_allowed()
+    ensures { OfScopes AccessesAreAllowed }
+{}
+
+/// What a clean scope opens are the accesses and the layout changes of its commands, in order.
+#[tactic(none)]
+pub fn a_clean_scope_opens_all()
+    ensures { OfScopes OpenedAreAll }
+{}
+
+/// The accesses of one command of a clean scope are apart.
+#[tactic(none)]
+pub fn commands_are_apart()
+    ensures { OfScopes CommandsApart }
+{}
+
+/// The place of a clean scope is that of its next command.
+#[tactic(none)]
+pub fn places_count_commands()
+    ensures { OfScopes PlacesCount }
+{}
+
+/// Of two accesses of a clean scope that meet, the earlier is covered before the later.
+#[tactic(none)]
+pub fn later_accesses_cover()
+    ensures { OfScopes LaterCovers }
+{}
