@@ -8,3 +8,4 @@ pub mod Judged
 pub mod Covering
 pub mod Ahead
 pub mod Laws
+pub mod Rows

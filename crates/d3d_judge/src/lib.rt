@@ -2,6 +2,7 @@
 #![tactic(auto)]
 
 pub mod laws;
+pub mod rows;
 mod rules;
 
 pub use rules::{Rule, Verdict};
