@@ -1,5 +1,5 @@
 -- What a clean verdict tells of the last event.
-use Rattle.std.proofs.Common.{ℕ, suc, ◌≡◌, ◌∙◌, List, [], ◌∷◌, ◌++◌, subst, ap, refl, arith, Option, Some, None}
+use Rattle.std.proofs.Common.{ℕ, suc, ◌≡◌, ◌∙◌, List, [], ◌∷◌, ◌++◌, subst, ap, refl, arith, Option, Some, None, append_assoc, append-nil, sym}
 use Rattle.dx_base.specs.Each.{Each}
 use Rattle.clocks.specs.Clocks.{OfQueue}
 use Rattle.d3d_machine.specs.declared.events.Event.{Event}
@@ -8,17 +8,19 @@ use Rattle.d3d_machine.specs.declared.world.World.{World}
 use Rattle.d3d_machine.specs.State.{State, first_state}
 use Rattle.d3d_machine.specs.Effects.{after, after_all}
 use Rattle.d3d_machine.specs.Play.{state_after}
+use Rattle.d3d_judge.specs.Made.{made_in_work, made_in_head, made_in_call, made_by, made_from}
 use Rattle.d3d_judge.specs.declared.rules.Rule.{Rule}
 use Rattle.d3d_judge.specs.declared.rules.Verdict.{Verdict}
 use Rattle.d3d_judge.specs.declared.rules.Verdict.TheVariants.{Clean, Broken}
-use Rattle.d3d_judge.specs.Carried.{Clocks, Pending, head_of, next_number, queue_joined, carried, carried_all, clocks_after}
+use Rattle.d3d_judge.specs.Carried.{Clocks, Pending, head_of, next_number, queue_joined, carried, carried_all, clocks_after, first_clocks}
 use Rattle.d3d_judge.specs.Commands.{Command}
 use Rattle.d3d_judge.specs.Covering.{Known}
-use Rattle.d3d_judge.specs.Judged.{Judged, Found, scope_of, found_in, found_in_head, found_in_work, judged_next, unless_broken, judge_step, judge_all, first_judged, judge, judge_after}
-use Rattle.d3d_judge.specs.Moves.{Move, Completes, Executes, move_of, moves_from, moves}
+use Rattle.d3d_judge.specs.Judged.{Judged, Found, scope_of, found_in, found_in_head, found_in_work, judged_next, unless_broken, judge_step, judge_all, first_judged, judge, judge_after, found_in_call}
+use Rattle.d3d_judge.specs.Moves.{Move, Completes, Executes, move_of, moves_from, moves, Calls, Wakes, Deed, Gives, SetsFence, WaitsFor, Asks, Stores, Loads, Nothing, Work, Signals, Waits}
 use Rattle.d3d_judge.specs.Scopes.{first_scope}
 use Rattle.d3d_judge.specs.Setting.{Setting, setting_of}
 use Rattle.d3d_judge.proofs.Knowing.{scope_knows}
+use Rattle.d3d_judge.proofs.Opening.{touches_all}
 
 verdict_cases : {P : Type 0} (v : Verdict) → (v ≡ Clean → P) → ((r : Rule) (n : ℕ) → v ≡ Broken r n → P) → P
 verdict_cases {P} Clean f g = f refl
@@ -73,6 +75,46 @@ module _ (base : Setting) where
   clocks_all j (e ∷ es) h =
       clocks_all (judge_step base j e) es h ∙ ap (λ s. carried_all s es) (step_clocks j e (was_clean_all (judge_step base j e) es h))
 
+  work_touched : (j : Judged) (q : ℕ) (p : Pending) (o : Work) → (found_in_work base j q p o).broken ≡ None → (found_in_work base j q p o).touched ≡ made_in_work base j.clocks q o
+  work_touched j q p (Executes cs) e =
+      touches_all base j.made (queue_joined j.clocks q p) (OfQueue q (next_number j.clocks q)) (first_scope j.layouts j.lost) cs e
+  work_touched j q p (Signals f v) e = refl
+  work_touched j q p (Waits f v) e = refl
+
+  head_touched : (j : Judged) (q : ℕ) (o : Option Pending) → (found_in_head base j q o).broken ≡ None → (found_in_head base j q o).touched ≡ made_in_head base j.clocks q o
+  head_touched j q None e = refl
+  head_touched j q (Some p) e = work_touched j q p p.what e
+
+  call_touched : (j : Judged) (t : ℕ) (what : Deed) → (found_in_call j t what).touched ≡ made_in_call j.clocks t what
+  call_touched j t (Gives q o) = refl
+  call_touched j t (SetsFence f v) = refl
+  call_touched j t (WaitsFor f v) = refl
+  call_touched j t (Asks f) = refl
+  call_touched j t (Stores r) = refl
+  call_touched j t (Loads r) = refl
+  call_touched j t Nothing = refl
+
+  -- what is found of an event that breaks nothing is what it touches
+  found_touched : (j : Judged) (e : Move) → (found_in base j e).broken ≡ None → (found_in base j e).touched ≡ made_by base j.clocks e
+  found_touched j (Calls t what) h = call_touched j t what
+  found_touched j (Wakes t) h = refl
+  found_touched j (Completes q) h = head_touched j q (head_of j.clocks q) h
+
+  step_made : (j : Judged) (e : Move) → (judge_step base j e).verdict ≡ Clean → (judge_step base j e).made ≡ j.made ++ made_by base j.clocks e
+  step_made j e h =
+      ap (λ (u : Judged). u.made) (step_is j e (step_was_clean j e h))
+      ∙ (ap (λ o. (judged_next o (found_in base j e) (carried j.clocks e) j).made) (step_finds_nothing j e h)
+      ∙ ap (λ ts. j.made ++ ts) (found_touched j e (step_finds_nothing j e h)))
+
+  made_all : (j : Judged) (es : List Move) → (judge_all base j es).verdict ≡ Clean → (judge_all base j es).made ≡ j.made ++ made_from base j.clocks es
+  made_all j [] h = sym (append-nil j.made)
+  made_all j (e ∷ es) h =
+      let c : (judge_step base j e).verdict ≡ Clean = was_clean_all (judge_step base j e) es h in
+      made_all (judge_step base j e) es h
+      ∙ (ap (λ ts. ts ++ made_from base (judge_step base j e).clocks es) (step_made j e c)
+      ∙ (ap (λ s. (j.made ++ made_by base j.clocks e) ++ made_from base s es) (step_clocks j e c)
+      ∙ append_assoc j.made (made_by base j.clocks e) (made_from base (carried j.clocks e) es)))
+
   execute_knows : (j : Judged) (q : ℕ) (p : Pending) (cs : List Command) → (judge_step base j (Completes q)).verdict ≡ Clean →
       head_of j.clocks q ≡ Some p → p.what ≡ Executes cs → Each (Known (queue_joined j.clocks q p) j.made) (scope_of base j q p cs).touched
   execute_knows j q p cs v h o =
@@ -104,3 +146,6 @@ clean_clocks_are w h v = clocks_all (setting_of w) (first_judged (setting_of w))
 pub broken_stays : (w : World) (h more : List Event) (r : Rule) (n : ℕ) → judge w h ≡ Broken r n → judge w (h ++ more) ≡ Broken r n
 broken_stays w h more r n b =
     ap (λ (u : Judged). u.verdict) (after_more w h more) ∙ broken_all (setting_of w) (judge_after w h) (moves_from w (state_after w h) more) r n b
+
+pub made_is_all : (w : World) (h : List Event) → judge w h ≡ Clean → (judge_after w h).made ≡ made_from (setting_of w) (first_clocks w) (moves w h)
+made_is_all w h v = made_all (setting_of w) (first_judged (setting_of w)) (moves w h) v

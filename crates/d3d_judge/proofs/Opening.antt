@@ -4,6 +4,7 @@ use Rattle.clocks.specs.declared.clock.Clock.{Clock}
 use Rattle.clocks.specs.Clocks.{Act}
 use Rattle.dx_flags.specs.declared.atoms.Part.{Part}
 use Rattle.enhanced_barriers.specs.declared.barriers.Barrier.{Barrier}
+use Rattle.d3d_judge.specs.Made.{touches_by, touches_of}
 use Rattle.d3d_judge.specs.Commands.{Range, Access, Command, Accesses, Bars, is_change}
 use Rattle.d3d_judge.specs.Setting.{Setting}
 use Rattle.d3d_judge.specs.Touches.{Touch}
@@ -54,3 +55,17 @@ module _ (base : Setting) (made : List Touch) (clock : Clock) (act : Act) where
       ap (λ x. map bare x.opened) g ∙ h ∙ ap (λ t. t ++ opened_from base u.place cs) (opens s c)
       ∙ ap (λ k. (map bare s.opened ++ opened_by base s.place c) ++ opened_from base k cs) (place_next s c)
       ∙ append_assoc (map bare s.opened) (opened_by base s.place c) (opened_from base (suc s.place) cs)
+
+  touches_next : (s : Scoped) (c : Command) → (scope_command base act s c).touched ≡ s.touched ++ touches_by base act c
+  touches_next s (Accesses part xs) = refl
+  touches_next s (Bars b) = refl
+
+  -- and so is what it touches
+  pub touches_all : (s : Scoped) (cs : List Command) → (scope_all base made clock act s cs).broken ≡ None →
+      (scope_all base made clock act s cs).touched ≡ s.touched ++ touches_of base act cs
+  touches_all s [] e = sym (append-nil s.touched)
+  touches_all s (c ∷ cs) e =
+      let g = goes_on base made clock act s c cs e in
+      let h = touches_all (scope_command base act s c) cs (subst (λ (u : Scoped). u.broken ≡ None) g e) in
+      ap (λ (u : Scoped). u.touched) g
+      ∙ (h ∙ (ap (λ ts. ts ++ touches_of base act cs) (touches_next s c) ∙ append_assoc s.touched (touches_by base act c) (touches_of base act cs)))

@@ -1,7 +1,7 @@
 -- The judge: a fold over what the events of a history are.
 use Rattle.std.specs.Prelude.{ℕ, suc, List, [], ◌∷◌, ◌++◌, Bool, true, false, Option, Some, None}
 use Rattle.clocks.specs.declared.clock.Clock.{Clock}
-use Rattle.clocks.specs.Clocks.{OfQueue, OfThread, number}
+use Rattle.clocks.specs.Clocks.{OfQueue}
 use Rattle.dx_flags.specs.declared.layouts.Layout.{Layout}
 use Rattle.d3d_machine.specs.declared.events.Event.{Event}
 use Rattle.d3d_machine.specs.declared.world.World.{World}
@@ -11,10 +11,11 @@ use Rattle.d3d_judge.specs.declared.rules.Verdict.{Verdict}
 use Rattle.d3d_judge.specs.declared.rules.Verdict.TheVariants.{Clean, Broken}
 use Rattle.d3d_judge.specs.Carried.{Clocks, Pending, call_clock, head_of, next_number, queue_joined, carried}
 use Rattle.d3d_judge.specs.Commands.{Range, Command}
+use Rattle.d3d_judge.specs.Made.{host_touch}
 use Rattle.d3d_judge.specs.Moves.{Move, Calls, Wakes, Completes, Deed, Gives, SetsFence, WaitsFor, Asks, Stores, Loads, Nothing, Work, Executes, Signals, Waits, moves}
 use Rattle.d3d_judge.specs.Scopes.{Scoped, first_scope, scope_all, or_rule, wholes}
 use Rattle.d3d_judge.specs.Setting.{Traits, Setting, setting_of, first_layouts}
-use Rattle.d3d_judge.specs.Touches.{Doing, Reads, Writes, Touch, breaks_ten_host}
+use Rattle.d3d_judge.specs.Touches.{Reads, Writes, Touch, breaks_ten_host}
 
 -- the judge's state: the clocks, all that was touched, which is never pruned, the layouts of all subresources, the lost words, the
 -- number of events, and what is said of them
@@ -29,10 +30,6 @@ pub record Judged : Type 0 where
 -- the scope of an execute that completes
 abbrev pub scope_of : Setting → Judged → ℕ → Pending → List Command → Scoped
 scope_of base j q p cs = scope_all base j.made (queue_joined j.clocks q p) (OfQueue q (next_number j.clocks q)) (first_scope j.layouts j.lost) cs
-
--- a host access by a thread's next call
-abbrev pub host_touch : Judged → ℕ → Range → Doing → Touch
-host_touch j t r doing = record { act = OfThread t (suc (number j.clocks.ends.threads t)); range = r; doing = doing }
 
 -- what is found of an event: the first rule that it breaks, what it touches, and the layouts and lost words after it
 pub record Found : Type 0 where
@@ -70,8 +67,8 @@ found_in_call j t (Gives q o) = found_nothing j
 found_in_call j t (SetsFence f v) = found_nothing j
 found_in_call j t (WaitsFor f v) = found_nothing j
 found_in_call j t (Asks f) = found_nothing j
-found_in_call j t (Stores r) = found_by_host j (call_clock j.clocks t) (host_touch j t r Writes)
-found_in_call j t (Loads r) = found_by_host j (call_clock j.clocks t) (host_touch j t r Reads)
+found_in_call j t (Stores r) = found_by_host j (call_clock j.clocks t) (host_touch j.clocks t r Writes)
+found_in_call j t (Loads r) = found_by_host j (call_clock j.clocks t) (host_touch j.clocks t r Reads)
 found_in_call j t Nothing = found_nothing j
 
 abbrev pub found_in : Setting → Judged → Move → Found

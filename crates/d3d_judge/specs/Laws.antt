@@ -9,14 +9,15 @@ use Rattle.d3d_machine.specs.declared.calls.Reply.{Reply}
 use Rattle.d3d_machine.specs.declared.events.Event.{Event}
 use Rattle.d3d_machine.specs.declared.events.Event.TheVariants as event
 use Rattle.d3d_machine.specs.declared.world.World.{World}
+use Rattle.d3d_judge.specs.Made.{touches_of, made_from}
 use Rattle.d3d_judge.specs.declared.rules.Rule.{Rule}
 use Rattle.d3d_judge.specs.declared.rules.Verdict.TheVariants.{Clean, Broken}
 use Rattle.d3d_judge.specs.Ahead.{Behind, forgotten}
-use Rattle.d3d_judge.specs.Carried.{Clocks, Pending, Sound, Fresh, carried, carried_all, clocks_after, head_of, queue_joined}
+use Rattle.d3d_judge.specs.Carried.{Clocks, Pending, Sound, Fresh, carried, carried_all, clocks_after, head_of, queue_joined, first_clocks}
 use Rattle.d3d_judge.specs.Commands.{Range, Access, pair_of, Command, Accesses, Bars, is_change}
 use Rattle.d3d_judge.specs.Covering.{Known, Covering, AreApart, IsCoveredLater, bare, opened_from}
 use Rattle.d3d_judge.specs.Judged.{scope_of, judge, judge_after}
-use Rattle.d3d_judge.specs.Moves.{Move, Calls, Completes, Stores, Loads, Executes, with_reply}
+use Rattle.d3d_judge.specs.Moves.{Move, Calls, Completes, Stores, Loads, Executes, with_reply, moves}
 use Rattle.d3d_judge.specs.Scopes.{Scoped, reaches, named, breaks_three, breaks_twelve, rule_of_command, scope_all}
 use Rattle.d3d_judge.specs.Setting.{Setting, setting_of}
 use Rattle.d3d_judge.specs.Touches.{Touch, conflict, doing_of, overlaps}
@@ -50,6 +51,10 @@ CleanExecutesKnow = (w : World) (h : List Event) (q : ℕ) (p : Pending) (cs : L
 -- of a clean verdict, the judge's clocks are those of the history
 abbrev pub CleanClocksAre : Type 0
 CleanClocksAre = (w : World) (h : List Event) → judge w h ≡ Clean → (judge_after w h).clocks ≡ clocks_after w h
+
+-- of a clean verdict, what was made is all that the events touch, in order: a host write or a later access ends nothing of it
+abbrev pub MadeIsAll : Type 0
+MadeIsAll = (w : World) (h : List Event) → judge w h ≡ Clean → (judge_after w h).made ≡ made_from (setting_of w) (first_clocks w) (moves w h)
 
 -- what is broken stays so, with the rule and the event
 abbrev pub BrokenStays : Type 0
@@ -92,6 +97,11 @@ module _ (base : Setting) (made : List Touch) (clock : Clock) (act : Act) where
   abbrev pub OpenedAreAll : Type 0
   OpenedAreAll = (s : Scoped) (cs : List Command) → (scope_all base made clock act s cs).broken ≡ None →
       map bare (scope_all base made clock act s cs).opened ≡ map bare s.opened ++ opened_from base s.place cs
+
+  -- what a clean scope touches is what its commands touch, in order
+  abbrev pub TouchedAreAll : Type 0
+  TouchedAreAll = (s : Scoped) (cs : List Command) → (scope_all base made clock act s cs).broken ≡ None →
+      (scope_all base made clock act s cs).touched ≡ s.touched ++ touches_of base act cs
 
   -- the accesses of one command of a clean scope are apart
   abbrev pub CommandsApart : Type 0

@@ -4,6 +4,7 @@ pub mod Carried
 pub mod Setting
 pub mod Touches
 pub mod Scopes
+pub mod Made
 pub mod Judged
 pub mod Covering
 pub mod Ahead

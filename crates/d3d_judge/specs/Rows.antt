@@ -1,14 +1,12 @@
 -- Worked rows: small runs that break a rule, or just keep it.
-use Rattle.std.specs.Prelude.{ℕ, List, [], ◌∷◌, ◌++◌, map, Bool, true, false, Option, Some, None}
+use Rattle.std.specs.Prelude.{ℕ, List, [], ◌∷◌, ◌++◌, map, true, false, Some, None}
 use Rattle.dx_base.specs.declared.kinds.Home.{Home}
 use Rattle.dx_base.specs.declared.kinds.Home.TheVariants as home
 use Rattle.dx_base.specs.declared.kinds.ListType.TheVariants as type
-use Rattle.dx_flags.specs.declared.accesses.Access.{Access as AccessSet}
 use Rattle.dx_flags.specs.declared.atoms.Kind.TheVariants as kind
 use Rattle.dx_flags.specs.declared.atoms.Part.TheVariants as part
 use Rattle.dx_flags.specs.declared.layouts.Layout.{Layout}
 use Rattle.dx_flags.specs.declared.layouts.Layout.TheVariants as layout
-use Rattle.dx_flags.specs.declared.syncs.Sync.{Sync}
 use Rattle.dx_flags.specs.AccessNames as access
 use Rattle.dx_flags.specs.AccessNames.{AccessName}
 use Rattle.dx_flags.specs.Accesses.{one_access}
@@ -27,7 +25,7 @@ use Rattle.d3d_machine.specs.declared.world.Resource.TheVariants.{Buffer}
 use Rattle.d3d_machine.specs.declared.world.World.{World}
 use Rattle.d3d_judge.specs.declared.rules.Verdict.{Verdict}
 use Rattle.d3d_judge.specs.Carried.{first_clocks}
-use Rattle.d3d_judge.specs.Commands.{Range, Access, Command, Accesses, Bars, bytes_of, copied_from, copied_to}
+use Rattle.d3d_judge.specs.Commands.{Range, Command, Accesses, Bars, copied_from, copied_to}
 use Rattle.d3d_judge.specs.Judged.{judge_moves}
 use Rattle.d3d_judge.specs.Moves.{Move, Calls, Wakes, Completes, Gives, WaitsFor, Stores, Loads, Nothing, Executes, Signals, Waits}
 use Rattle.d3d_judge.specs.Setting.{Setting, Traits}

@@ -1,7 +1,7 @@
 //! Laws of clocks, of scopes and of the judge. The functions do nothing.
 
 ghost use Rattle.d3d_judge.specs.Laws.{StaySound, ClocksAreSound, LoadsAreFresh, StoresAreFresh, KnowAhead};
-ghost use Rattle.d3d_judge.specs.Laws.{CleanExecutesKnow, CleanClocksAre, BrokenStays, RepliesPlayNoPart};
+ghost use Rattle.d3d_judge.specs.Laws.{CleanExecutesKnow, CleanClocksAre, MadeIsAll, TouchedAreAll, BrokenStays, RepliesPlayNoPart};
 ghost use Rattle.d3d_judge.specs.Laws.{OfScopes, BreakNothing, ScopesCover, ChangesReach, AccessesAreAllowed, OpenedAreAll, CommandsApart, PlacesCount, LaterCovers};
 
 /// The clocks of a history know only calls that were made and operations that are complete.
@@ -35,6 +35,13 @@ pub fn clean_executes_know()
 #[tactic(none)]
 pub fn clean_clocks_are_those_of_the_history()
     ensures { CleanClocksAre }
+{}
+
+/// Of a clean verdict, what was made is all that the events touch, in order.
+#[tactic(none)]
+pub fn all_that_was_touched_is_kept()
+    ensures of_histories { MadeIsAll }
+    ensures of_scopes { OfScopes TouchedAreAll }
 {}
 
 /// A broken verdict stays, with its rule and its event.
