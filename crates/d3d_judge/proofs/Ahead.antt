@@ -5,7 +5,7 @@ use Rattle.dx_base.specs.Lists.{changed_at}
 use Rattle.clocks.specs.declared.clock.Clock.{Clock}
 use Rattle.clocks.specs.Clocks.{number, numbered, joined, with_op, Within, empty_clock}
 use Rattle.clocks.proofs.Clocks.{number_greater}
-use Rattle.d3d_judge.specs.Moves.{Completes, Work, Executes, Signals, Waits}
+use Rattle.d3d_judge.specs.Happenings.{Completes, Work, Executes, Signals, Waits}
 use Rattle.d3d_judge.specs.Carried.{item_or, Update, Pending, Clocks, sufficient, marking, queue_clock, one_completion_more, marked, head, next_number, queue_joined, completing, updated, completed, carried, carried_all, Sound}
 use Rattle.d3d_judge.specs.Ahead.{forgotten, forgotten_pending, forgotten_update, Beyond, Both, SamePending, SameUpdate, Behind}
 

@@ -5,7 +5,7 @@ use Rattle.dx_base.proofs.Each.{each_on, each_append, each_changed, each_new}
 use Rattle.clocks.specs.declared.clock.Clock.{Clock}
 use Rattle.clocks.specs.Clocks.{number, numbered, joined, with_call, with_op, Within, empty_clock}
 use Rattle.clocks.proofs.Clocks.{within_joined}
-use Rattle.d3d_judge.specs.Moves.{Move, Calls, Wakes, Completes, Deed, Gives, SetsFence, WaitsFor, Asks, Stores, Loads, Nothing, Work, Executes, Signals, Waits}
+use Rattle.d3d_judge.specs.Happenings.{Happening, Calls, Wakes, Completes, Deed, Gives, SetsFence, WaitsFor, Asks, Stores, Loads, Nothing, Work, Executes, Signals, Waits}
 use Rattle.d3d_judge.specs.Carried.{item_or, Update, Pending, Armed, Clocks, no_wait, sufficient, marking, latest, thread_clock, queue_clock, one_call_more, one_completion_more, call_clock, called_by, effect, armed_clock, marked, head, queue_joined, completing, updated, completed, carried, carried_all, no_clock, first_update, first_clocks, Sound}
 use Rattle.d3d_machine.specs.declared.world.World.{World}
 
@@ -205,7 +205,7 @@ sound_head : (s : Clocks) (q : ℕ) (ps : List Pending) → Sound s → Each (λ
 sound_head s q [] z e = z
 sound_head s q (p ∷ ps) z e = sound_completed s q p z e.0
 
-pub sound_carried : (s : Clocks) (e : Move) → Sound s → Sound (carried s e)
+pub sound_carried : (s : Clocks) (e : Happening) → Sound s → Sound (carried s e)
 sound_carried s (Calls t what) z = sound_effect (called_by s t) t (call_clock s t) what (sound_called s t z) (call_clock_within s t z)
 sound_carried s (Wakes t) z =
     let a : Armed = item_or no_wait s.waits t in
@@ -218,7 +218,7 @@ sound_carried s (Wakes t) z =
     }
 sound_carried s (Completes q) z = sound_head s q (item_or [] s.pending q) z (each_at (λ ps. Each (λ p. Within p.clock s.ends) ps) [] s.pending q tt z.pending)
 
-pub sound_all : (s : Clocks) (es : List Move) → Sound s → Sound (carried_all s es)
+pub sound_all : (s : Clocks) (es : List Happening) → Sound s → Sound (carried_all s es)
 sound_all s [] z = z
 sound_all s (e ∷ es) z = sound_all (carried s e) es (sound_carried s e z)
 

@@ -16,7 +16,7 @@ use Rattle.d3d_judge.specs.Carried.{Clocks, Pending, head_of, next_number, queue
 use Rattle.d3d_judge.specs.Commands.{Command}
 use Rattle.d3d_judge.specs.Covering.{Known}
 use Rattle.d3d_judge.specs.Judged.{Judged, Found, scope_of, found_in, found_in_head, found_in_work, judged_next, unless_broken, judge_step, judge_all, first_judged, judge, judge_after, found_in_call}
-use Rattle.d3d_judge.specs.Moves.{Move, Completes, Executes, move_of, moves_from, moves, Calls, Wakes, Deed, Gives, SetsFence, WaitsFor, Asks, Stores, Loads, Nothing, Work, Signals, Waits}
+use Rattle.d3d_judge.specs.Happenings.{Happening, Completes, Executes, happening_of, happenings_from, happenings, Calls, Wakes, Deed, Gives, SetsFence, WaitsFor, Asks, Stores, Loads, Nothing, Work, Signals, Waits}
 use Rattle.d3d_judge.specs.Scopes.{first_scope}
 use Rattle.d3d_judge.specs.Setting.{Setting, setting_of}
 use Rattle.d3d_judge.proofs.Knowing.{scope_knows}
@@ -30,17 +30,17 @@ not_both : {P : Type 0} (v : Verdict) (r : Rule) (n : ℕ) → v ≡ Broken r n 
 not_both v r n b c = absurd (grind (arith, b, c))
 
 module _ (base : Setting) where
-  judge_append : (j : Judged) (es more : List Move) → judge_all base j (es ++ more) ≡ judge_all base (judge_all base j es) more
+  judge_append : (j : Judged) (es more : List Happening) → judge_all base j (es ++ more) ≡ judge_all base (judge_all base j es) more
   judge_append j [] more = refl
   judge_append j (d ∷ es) more = judge_append (judge_step base j d) es more
 
   -- a clean verdict after an event: it was clean before
-  pub step_was_clean : (j : Judged) (e : Move) → (judge_step base j e).verdict ≡ Clean → j.verdict ≡ Clean
+  pub step_was_clean : (j : Judged) (e : Happening) → (judge_step base j e).verdict ≡ Clean → j.verdict ≡ Clean
   step_was_clean j e h =
       verdict_cases j.verdict (λ c. c)
       (λ r n b. not_both j.verdict r n b (subst (λ v. (unless_broken v (judged_next (found_in base j e).broken (found_in base j e) (carried j.clocks e) j) j).verdict ≡ Clean) b h))
 
-  step_is : (j : Judged) (e : Move) → j.verdict ≡ Clean → judge_step base j e ≡ judged_next (found_in base j e).broken (found_in base j e) (carried j.clocks e) j
+  step_is : (j : Judged) (e : Happening) → j.verdict ≡ Clean → judge_step base j e ≡ judged_next (found_in base j e).broken (found_in base j e) (carried j.clocks e) j
   step_is j e c = ap (λ v. unless_broken v (judged_next (found_in base j e).broken (found_in base j e) (carried j.clocks e) j) j) c
 
   nothing_found : (o : Option Rule) (f : Found) (s : Clocks) (j : Judged) → (judged_next o f s j).verdict ≡ Clean → o ≡ None
@@ -48,29 +48,29 @@ module _ (base : Setting) where
   nothing_found (Some r) f s j h = not_both (Broken r (suc j.events)) r (suc j.events) refl h
 
   -- and the event broke nothing
-  pub step_finds_nothing : (j : Judged) (e : Move) → (judge_step base j e).verdict ≡ Clean → (found_in base j e).broken ≡ None
+  pub step_finds_nothing : (j : Judged) (e : Happening) → (judge_step base j e).verdict ≡ Clean → (found_in base j e).broken ≡ None
   step_finds_nothing j e h =
       nothing_found (found_in base j e).broken (found_in base j e) (carried j.clocks e) j
       (subst (λ (u : Judged). u.verdict ≡ Clean) (step_is j e (step_was_clean j e h)) h)
 
-  step_clocks : (j : Judged) (e : Move) → (judge_step base j e).verdict ≡ Clean → (judge_step base j e).clocks ≡ carried j.clocks e
+  step_clocks : (j : Judged) (e : Happening) → (judge_step base j e).verdict ≡ Clean → (judge_step base j e).clocks ≡ carried j.clocks e
   step_clocks j e h =
       ap (λ (u : Judged). u.clocks) (step_is j e (step_was_clean j e h))
       ∙ ap (λ o. (judged_next o (found_in base j e) (carried j.clocks e) j).clocks) (step_finds_nothing j e h)
 
   -- a broken verdict stays
-  broken_step : (j : Judged) (e : Move) (r : Rule) (n : ℕ) → j.verdict ≡ Broken r n → (judge_step base j e).verdict ≡ Broken r n
+  broken_step : (j : Judged) (e : Happening) (r : Rule) (n : ℕ) → j.verdict ≡ Broken r n → (judge_step base j e).verdict ≡ Broken r n
   broken_step j e r n b =
       ap (λ v. (unless_broken v (judged_next (found_in base j e).broken (found_in base j e) (carried j.clocks e) j) j).verdict) b ∙ b
 
-  broken_all : (j : Judged) (es : List Move) (r : Rule) (n : ℕ) → j.verdict ≡ Broken r n → (judge_all base j es).verdict ≡ Broken r n
+  broken_all : (j : Judged) (es : List Happening) (r : Rule) (n : ℕ) → j.verdict ≡ Broken r n → (judge_all base j es).verdict ≡ Broken r n
   broken_all j [] r n b = b
   broken_all j (e ∷ es) r n b = broken_all (judge_step base j e) es r n (broken_step j e r n b)
 
-  pub was_clean_all : (j : Judged) (es : List Move) → (judge_all base j es).verdict ≡ Clean → j.verdict ≡ Clean
+  pub was_clean_all : (j : Judged) (es : List Happening) → (judge_all base j es).verdict ≡ Clean → j.verdict ≡ Clean
   was_clean_all j es h = verdict_cases j.verdict (λ c. c) (λ r n b. not_both (judge_all base j es).verdict r n (broken_all j es r n b) h)
 
-  clocks_all : (j : Judged) (es : List Move) → (judge_all base j es).verdict ≡ Clean → (judge_all base j es).clocks ≡ carried_all j.clocks es
+  clocks_all : (j : Judged) (es : List Happening) → (judge_all base j es).verdict ≡ Clean → (judge_all base j es).clocks ≡ carried_all j.clocks es
   clocks_all j [] h = refl
   clocks_all j (e ∷ es) h =
       clocks_all (judge_step base j e) es h ∙ ap (λ s. carried_all s es) (step_clocks j e (was_clean_all (judge_step base j e) es h))
@@ -95,18 +95,18 @@ module _ (base : Setting) where
   call_touched j t Nothing = refl
 
   -- what is found of an event that breaks nothing is what it touches
-  found_touched : (j : Judged) (e : Move) → (found_in base j e).broken ≡ None → (found_in base j e).touched ≡ made_by base j.clocks e
+  found_touched : (j : Judged) (e : Happening) → (found_in base j e).broken ≡ None → (found_in base j e).touched ≡ made_by base j.clocks e
   found_touched j (Calls t what) h = call_touched j t what
   found_touched j (Wakes t) h = refl
   found_touched j (Completes q) h = head_touched j q (head_of j.clocks q) h
 
-  step_made : (j : Judged) (e : Move) → (judge_step base j e).verdict ≡ Clean → (judge_step base j e).made ≡ j.made ++ made_by base j.clocks e
+  step_made : (j : Judged) (e : Happening) → (judge_step base j e).verdict ≡ Clean → (judge_step base j e).made ≡ j.made ++ made_by base j.clocks e
   step_made j e h =
       ap (λ (u : Judged). u.made) (step_is j e (step_was_clean j e h))
       ∙ (ap (λ o. (judged_next o (found_in base j e) (carried j.clocks e) j).made) (step_finds_nothing j e h)
       ∙ ap (λ ts. j.made ++ ts) (found_touched j e (step_finds_nothing j e h)))
 
-  made_all : (j : Judged) (es : List Move) → (judge_all base j es).verdict ≡ Clean → (judge_all base j es).made ≡ j.made ++ made_from base j.clocks es
+  made_all : (j : Judged) (es : List Happening) → (judge_all base j es).verdict ≡ Clean → (judge_all base j es).made ≡ j.made ++ made_from base j.clocks es
   made_all j [] h = sym (append-nil j.made)
   made_all j (e ∷ es) h =
       let c : (judge_step base j e).verdict ≡ Clean = was_clean_all (judge_step base j e) es h in
@@ -124,14 +124,14 @@ module _ (base : Setting) where
       scope_knows base j.made (queue_joined j.clocks q p) (OfQueue q (next_number j.clocks q)) (first_scope j.layouts j.lost) cs refl refl d
 
 -- what more events are
-moves_append : (w : World) (s : State) (h more : List Event) → moves_from w s (h ++ more) ≡ moves_from w s h ++ moves_from w (after_all w s h) more
-moves_append w s [] more = refl
-moves_append w s (e ∷ h) more = ap (λ t. move_of w s.desk e ∷ t) (moves_append w (after w s e) h more)
+happenings_append : (w : World) (s : State) (h more : List Event) → happenings_from w s (h ++ more) ≡ happenings_from w s h ++ happenings_from w (after_all w s h) more
+happenings_append w s [] more = refl
+happenings_append w s (e ∷ h) more = ap (λ t. happening_of w s.desk e ∷ t) (happenings_append w (after w s e) h more)
 
-after_more : (w : World) (h more : List Event) → judge_after w (h ++ more) ≡ judge_all (setting_of w) (judge_after w h) (moves_from w (state_after w h) more)
+after_more : (w : World) (h more : List Event) → judge_after w (h ++ more) ≡ judge_all (setting_of w) (judge_after w h) (happenings_from w (state_after w h) more)
 after_more w h more =
-    ap (judge_all (setting_of w) (first_judged (setting_of w))) (moves_append w (first_state w) h more)
-    ∙ judge_append (setting_of w) (first_judged (setting_of w)) (moves w h) (moves_from w (state_after w h) more)
+    ap (judge_all (setting_of w) (first_judged (setting_of w))) (happenings_append w (first_state w) h more)
+    ∙ judge_append (setting_of w) (first_judged (setting_of w)) (happenings w h) (happenings_from w (state_after w h) more)
 
 pub clean_executes_know : (w : World) (h : List Event) (q : ℕ) (p : Pending) (cs : List Command) →
     judge w (h ++ event.Queue (record { 0 = q }) ∷ []) ≡ Clean →
@@ -141,11 +141,11 @@ clean_executes_know w h q p cs v =
     execute_knows (setting_of w) (judge_after w h) q p cs (subst (λ (u : Judged). u.verdict ≡ Clean) (after_more w h (event.Queue (record { 0 = q }) ∷ [])) v)
 
 pub clean_clocks_are : (w : World) (h : List Event) → judge w h ≡ Clean → (judge_after w h).clocks ≡ clocks_after w h
-clean_clocks_are w h v = clocks_all (setting_of w) (first_judged (setting_of w)) (moves w h) v
+clean_clocks_are w h v = clocks_all (setting_of w) (first_judged (setting_of w)) (happenings w h) v
 
 pub broken_stays : (w : World) (h more : List Event) (r : Rule) (n : ℕ) → judge w h ≡ Broken r n → judge w (h ++ more) ≡ Broken r n
 broken_stays w h more r n b =
-    ap (λ (u : Judged). u.verdict) (after_more w h more) ∙ broken_all (setting_of w) (judge_after w h) (moves_from w (state_after w h) more) r n b
+    ap (λ (u : Judged). u.verdict) (after_more w h more) ∙ broken_all (setting_of w) (judge_after w h) (happenings_from w (state_after w h) more) r n b
 
-pub made_is_all : (w : World) (h : List Event) → judge w h ≡ Clean → (judge_after w h).made ≡ made_from (setting_of w) (first_clocks w) (moves w h)
-made_is_all w h v = made_all (setting_of w) (first_judged (setting_of w)) (moves w h) v
+pub made_is_all : (w : World) (h : List Event) → judge w h ≡ Clean → (judge_after w h).made ≡ made_from (setting_of w) (first_clocks w) (happenings w h)
+made_is_all w h v = made_all (setting_of w) (first_judged (setting_of w)) (happenings w h) v

@@ -6,26 +6,26 @@ use Rattle.d3d_machine.specs.declared.events.Event.TheVariants as event
 use Rattle.d3d_machine.specs.declared.world.World.{World}
 use Rattle.d3d_machine.specs.State.{State, first_state}
 use Rattle.d3d_machine.specs.Effects.{after}
-use Rattle.d3d_judge.specs.Judged.{judge, judge_moves}
-use Rattle.d3d_judge.specs.Moves.{move_of, moves_from, with_reply}
+use Rattle.d3d_judge.specs.Judged.{judge, judge_happenings}
+use Rattle.d3d_judge.specs.Happenings.{happening_of, happenings_from, with_reply}
 use Rattle.d3d_judge.specs.Setting.{setting_of}
 
-same_move : (w : World) (s : State) (r : Reply) (e : Event) → move_of w s.desk (with_reply r e) ≡ move_of w s.desk e
-same_move w s r (event.Call t c old) = refl
-same_move w s r (event.Awake t) = refl
-same_move w s r (event.Queue q) = refl
+same_happening : (w : World) (s : State) (r : Reply) (e : Event) → happening_of w s.desk (with_reply r e) ≡ happening_of w s.desk e
+same_happening w s r (event.Call t c old) = refl
+same_happening w s r (event.Awake t) = refl
+same_happening w s r (event.Queue q) = refl
 
 same_after : (w : World) (s : State) (r : Reply) (e : Event) → after w s (with_reply r e) ≡ after w s e
 same_after w s r (event.Call t c old) = refl
 same_after w s r (event.Awake t) = refl
 same_after w s r (event.Queue q) = refl
 
-same_moves : (w : World) (s : State) (r : Reply) (h : List Event) → moves_from w s (map (with_reply r) h) ≡ moves_from w s h
-same_moves w s r [] = refl
-same_moves w s r (e ∷ h) =
-    ap (λ m. m ∷ moves_from w (after w s (with_reply r e)) (map (with_reply r) h)) (same_move w s r e)
-    ∙ ap (λ u. move_of w s.desk e ∷ moves_from w u (map (with_reply r) h)) (same_after w s r e)
-    ∙ ap (λ ms. move_of w s.desk e ∷ ms) (same_moves w (after w s e) r h)
+same_happenings : (w : World) (s : State) (r : Reply) (h : List Event) → happenings_from w s (map (with_reply r) h) ≡ happenings_from w s h
+same_happenings w s r [] = refl
+same_happenings w s r (e ∷ h) =
+    ap (λ m. m ∷ happenings_from w (after w s (with_reply r e)) (map (with_reply r) h)) (same_happening w s r e)
+    ∙ ap (λ u. happening_of w s.desk e ∷ happenings_from w u (map (with_reply r) h)) (same_after w s r e)
+    ∙ ap (λ ms. happening_of w s.desk e ∷ ms) (same_happenings w (after w s e) r h)
 
 pub replies_play_no_part : (w : World) (h : List Event) (r : Reply) → judge w (map (with_reply r) h) ≡ judge w h
-replies_play_no_part w h r = ap (judge_moves (setting_of w)) (same_moves w (first_state w) r h)
+replies_play_no_part w h r = ap (judge_happenings (setting_of w)) (same_happenings w (first_state w) r h)

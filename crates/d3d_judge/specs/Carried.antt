@@ -1,4 +1,4 @@
--- How clocks are carried along a history: a fold over what its events are, which reads no memory, no verdict and no words.
+-- How clocks are carried along a history: a fold over what happens at its events, which reads no memory, no verdict and no words.
 use Rattle.std.specs.Prelude.{cond, ◌≡◌, ℕ, zero, suc, ◌-◌, nat_le, List, [], ◌∷◌, ◌++◌, length, drop, map, false, Option, Some, None}
 use Rattle.dx_base.specs.Each.{Each}
 use Rattle.dx_base.specs.Lists.{changed_at}
@@ -6,7 +6,7 @@ use Rattle.clocks.specs.declared.clock.Clock.{Clock}
 use Rattle.clocks.specs.Clocks.{OfThread, joined, knows, Within, number, with_call, with_op, empty_clock, zero_clock}
 use Rattle.d3d_machine.specs.declared.events.Event.{Event}
 use Rattle.d3d_machine.specs.declared.world.World.{World}
-use Rattle.d3d_judge.specs.Moves.{Move, Calls, Wakes, Completes, Deed, Gives, SetsFence, WaitsFor, Asks, Stores, Loads, Nothing, Work, Executes, Signals, Waits, moves}
+use Rattle.d3d_judge.specs.Happenings.{Happening, Calls, Wakes, Completes, Deed, Gives, SetsFence, WaitsFor, Asks, Stores, Loads, Nothing, Work, Executes, Signals, Waits, happenings}
 
 -- the item at a place, or else another
 abbrev pub item_or : {A : Type 0} → A → List A → ℕ → A
@@ -143,13 +143,13 @@ completed s q (Some p) = record s {
 }
 
 -- the clocks after an event
-abbrev pub carried : Clocks → Move → Clocks
+abbrev pub carried : Clocks → Happening → Clocks
 carried s (Calls t what) = effect (called_by s t) t (call_clock s t) what
 carried s (Wakes t) = record s { threads = changed_at (λ c. joined c (armed_clock s (item_or no_wait s.waits t))) t s.threads }
 carried s (Completes q) = completed s q (head_of s q)
 
 -- the clocks after events
-abbrev pub carried_all : Clocks → List Move → Clocks
+abbrev pub carried_all : Clocks → List Happening → Clocks
 carried_all s [] = s
 carried_all s (e ∷ es) = carried_all (carried s e) es
 
@@ -173,7 +173,7 @@ first_clocks w = record {
 
 -- the clocks after a history
 abbrev pub clocks_after : World → List Event → Clocks
-clocks_after w h = carried_all (first_clocks w) (moves w h)
+clocks_after w h = carried_all (first_clocks w) (happenings w h)
 
 -- every clock knows only calls that were made and operations that are complete
 pub record Sound (s : Clocks) : Type 0 where

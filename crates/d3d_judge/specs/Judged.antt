@@ -1,4 +1,4 @@
--- The judge: a fold over what the events of a history are.
+-- The judge: a fold over what happens at the events of a history.
 use Rattle.std.specs.Prelude.{ℕ, suc, List, [], ◌∷◌, ◌++◌, Bool, true, false, Option, Some, None}
 use Rattle.clocks.specs.declared.clock.Clock.{Clock}
 use Rattle.clocks.specs.Clocks.{OfQueue}
@@ -12,7 +12,7 @@ use Rattle.d3d_judge.specs.declared.rules.Verdict.TheVariants.{Clean, Broken}
 use Rattle.d3d_judge.specs.Carried.{Clocks, Pending, call_clock, head_of, next_number, queue_joined, carried}
 use Rattle.d3d_judge.specs.Commands.{Range, Command}
 use Rattle.d3d_judge.specs.Made.{host_touch}
-use Rattle.d3d_judge.specs.Moves.{Move, Calls, Wakes, Completes, Deed, Gives, SetsFence, WaitsFor, Asks, Stores, Loads, Nothing, Work, Executes, Signals, Waits, moves}
+use Rattle.d3d_judge.specs.Happenings.{Happening, Calls, Wakes, Completes, Deed, Gives, SetsFence, WaitsFor, Asks, Stores, Loads, Nothing, Work, Executes, Signals, Waits, happenings}
 use Rattle.d3d_judge.specs.Scopes.{Scoped, first_scope, scope_all, or_rule, wholes}
 use Rattle.d3d_judge.specs.Setting.{Traits, Setting, setting_of, first_layouts}
 use Rattle.d3d_judge.specs.Touches.{Reads, Writes, Touch, breaks_ten_host}
@@ -71,7 +71,7 @@ found_in_call j t (Stores r) = found_by_host j (call_clock j.clocks t) (host_tou
 found_in_call j t (Loads r) = found_by_host j (call_clock j.clocks t) (host_touch j.clocks t r Reads)
 found_in_call j t Nothing = found_nothing j
 
-abbrev pub found_in : Setting → Judged → Move → Found
+abbrev pub found_in : Setting → Judged → Happening → Found
 found_in base j (Calls t what) = found_in_call j t what
 found_in base j (Wakes t) = found_nothing j
 found_in base j (Completes q) = found_in_head base j q (head_of j.clocks q)
@@ -86,10 +86,10 @@ unless_broken Clean next j = next
 unless_broken (Broken r n) next j = j
 
 -- the judge after an event; after a broken rule nothing changes
-abbrev pub judge_step : Setting → Judged → Move → Judged
+abbrev pub judge_step : Setting → Judged → Happening → Judged
 judge_step base j e = unless_broken j.verdict (judged_next (found_in base j e).broken (found_in base j e) (carried j.clocks e) j) j
 
-abbrev pub judge_all : Setting → Judged → List Move → Judged
+abbrev pub judge_all : Setting → Judged → List Happening → Judged
 judge_all base j [] = j
 judge_all base j (e ∷ es) = judge_all base (judge_step base j e) es
 
@@ -113,12 +113,12 @@ first_judged base = record {
 }
 
 -- what is said of events
-abbrev pub judge_moves : Setting → List Move → Verdict
-judge_moves base es = (judge_all base (first_judged base) es).verdict
+abbrev pub judge_happenings : Setting → List Happening → Verdict
+judge_happenings base es = (judge_all base (first_judged base) es).verdict
 
 -- the judge after a history
 abbrev pub judge_after : World → List Event → Judged
-judge_after w h = judge_all (setting_of w) (first_judged (setting_of w)) (moves w h)
+judge_after w h = judge_all (setting_of w) (first_judged (setting_of w)) (happenings w h)
 
 -- what is said of a history
 abbrev pub judge : World → List Event → Verdict

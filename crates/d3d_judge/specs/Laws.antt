@@ -17,14 +17,14 @@ use Rattle.d3d_judge.specs.Carried.{Clocks, Pending, Sound, Fresh, carried, carr
 use Rattle.d3d_judge.specs.Commands.{Range, Access, pair_of, Command, Accesses, Bars, is_change}
 use Rattle.d3d_judge.specs.Covering.{Known, Covering, AreApart, IsCoveredLater, bare, opened_from}
 use Rattle.d3d_judge.specs.Judged.{scope_of, judge, judge_after}
-use Rattle.d3d_judge.specs.Moves.{Move, Calls, Completes, Stores, Loads, Executes, with_reply, moves}
+use Rattle.d3d_judge.specs.Happenings.{Happening, Calls, Completes, Stores, Loads, Executes, with_reply, happenings}
 use Rattle.d3d_judge.specs.Scopes.{Scoped, reaches, named, breaks_three, breaks_twelve, rule_of_command, scope_all}
 use Rattle.d3d_judge.specs.Setting.{Setting, setting_of}
 use Rattle.d3d_judge.specs.Touches.{Touch, conflict, doing_of, overlaps}
 
 -- clocks that know only calls that were made and operations that are complete go on to do so
 abbrev pub StaySound : Type 0
-StaySound = (s : Clocks) (es : List Move) → Sound s → Sound (carried_all s es)
+StaySound = (s : Clocks) (es : List Happening) → Sound s → Sound (carried_all s es)
 
 -- the clocks of every history know only calls that were made and operations that are complete
 abbrev pub ClocksAreSound : Type 0
@@ -54,7 +54,7 @@ CleanClocksAre = (w : World) (h : List Event) → judge w h ≡ Clean → (judge
 
 -- of a clean verdict, what was made is all that the events touch, in order: a host write or a later access ends nothing of it
 abbrev pub MadeIsAll : Type 0
-MadeIsAll = (w : World) (h : List Event) → judge w h ≡ Clean → (judge_after w h).made ≡ made_from (setting_of w) (first_clocks w) (moves w h)
+MadeIsAll = (w : World) (h : List Event) → judge w h ≡ Clean → (judge_after w h).made ≡ made_from (setting_of w) (first_clocks w) (happenings w h)
 
 -- what is broken stays so, with the rule and the event
 abbrev pub BrokenStays : Type 0

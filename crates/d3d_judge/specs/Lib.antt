@@ -1,5 +1,5 @@
 pub mod Commands
-pub mod Moves
+pub mod Happenings
 pub mod Carried
 pub mod Setting
 pub mod Touches

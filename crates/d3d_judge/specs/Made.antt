@@ -3,7 +3,7 @@ use Rattle.std.specs.Prelude.{ℕ, suc, List, [], ◌∷◌, ◌++◌, map, Opti
 use Rattle.clocks.specs.Clocks.{Act, OfQueue, OfThread, number}
 use Rattle.d3d_judge.specs.Carried.{Clocks, Pending, head_of, next_number, carried}
 use Rattle.d3d_judge.specs.Commands.{Range, Command, Accesses, Bars}
-use Rattle.d3d_judge.specs.Moves.{Move, Calls, Wakes, Completes, Deed, Gives, SetsFence, WaitsFor, Asks, Stores, Loads, Nothing, Work, Executes, Signals, Waits}
+use Rattle.d3d_judge.specs.Happenings.{Happening, Calls, Wakes, Completes, Deed, Gives, SetsFence, WaitsFor, Asks, Stores, Loads, Nothing, Work, Executes, Signals, Waits}
 use Rattle.d3d_judge.specs.Scopes.{named}
 use Rattle.d3d_judge.specs.Setting.{Setting}
 use Rattle.d3d_judge.specs.Touches.{Doing, Reads, Writes, Touch, touch_of, touch_of_barrier}
@@ -40,12 +40,12 @@ made_in_call s t (Loads r) = host_touch s t r Reads ∷ []
 made_in_call s t Nothing = []
 
 -- what an event touches
-abbrev pub made_by : Setting → Clocks → Move → List Touch
+abbrev pub made_by : Setting → Clocks → Happening → List Touch
 made_by base s (Calls t what) = made_in_call s t what
 made_by base s (Wakes t) = []
 made_by base s (Completes q) = made_in_head base s q (head_of s q)
 
 -- what events touch, in order
-abbrev pub made_from : Setting → Clocks → List Move → List Touch
+abbrev pub made_from : Setting → Clocks → List Happening → List Touch
 made_from base s [] = []
 made_from base s (e ∷ es) = made_by base s e ++ made_from base (carried s e) es

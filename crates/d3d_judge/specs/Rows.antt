@@ -26,8 +26,8 @@ use Rattle.d3d_machine.specs.declared.world.World.{World}
 use Rattle.d3d_judge.specs.declared.rules.Verdict.{Verdict}
 use Rattle.d3d_judge.specs.Carried.{first_clocks}
 use Rattle.d3d_judge.specs.Commands.{Range, Command, Accesses, Bars, copied_from, copied_to}
-use Rattle.d3d_judge.specs.Judged.{judge_moves}
-use Rattle.d3d_judge.specs.Moves.{Move, Calls, Wakes, Completes, Gives, WaitsFor, Stores, Loads, Nothing, Executes, Signals, Waits}
+use Rattle.d3d_judge.specs.Judged.{judge_happenings}
+use Rattle.d3d_judge.specs.Happenings.{Happening, Calls, Wakes, Completes, Gives, WaitsFor, Stores, Loads, Nothing, Executes, Signals, Waits}
 use Rattle.d3d_judge.specs.Setting.{Setting, Traits}
 
 -- Runs of worlds
@@ -176,7 +176,7 @@ into_upload = records 0 (copy 0 u 0 d 0 16 ∷ []) ++ (calls 0 (execute 0 0) ∷
 abbrev pub from_readback : List Event
 from_readback = records 0 (copy 0 d 0 b 0 16 ∷ []) ++ (calls 0 (execute 0 0) ∷ completes 0 ∷ [])
 
--- Runs with barriers and textures, by what their events are
+-- Runs with barriers and textures, by what happens in them
 
 -- the resources of the small world, and an enhanced texture x of 4 by 4 words in layout COMMON
 abbrev pub x : ℕ
@@ -256,27 +256,27 @@ abbrev pub all_from : SyncName → Command
 all_from before = barrier scope.Global before sync.COPY access.COMMON access.COMMON layout.Common layout.Common
 
 -- the calls that record commands into a list and close it, which nothing here reads
-abbrev pub recording : List Command → List Move
+abbrev pub recording : List Command → List Happening
 recording cs = Calls 0 Nothing ∷ Calls 0 Nothing ∷ map (λ _. Calls 0 Nothing) cs
 
 -- what is said of one execute of commands: they are recorded, called, and complete
 abbrev pub judge_scope : List Command → Verdict
-judge_scope cs = judge_moves texture_setting (recording cs ++ (Calls 0 (Gives 0 (Executes cs)) ∷ Completes 0 ∷ []))
+judge_scope cs = judge_happenings texture_setting (recording cs ++ (Calls 0 (Gives 0 (Executes cs)) ∷ Completes 0 ∷ []))
 
 -- the whole way of words: written, copied into the texture, and out of it, with a wait behind
 abbrev pub whole_way : Verdict
-whole_way = judge_moves texture_setting
+whole_way = judge_happenings texture_setting
     (Calls 0 (Stores (words_of u 0 4)) ∷ (recording (into_x ∷ x_written_to_read layout.Common layout.CopySource ∷ out_of_x ∷ [])
     ++ (Calls 0 (Gives 0 (Executes (into_x ∷ x_written_to_read layout.Common layout.CopySource ∷ out_of_x ∷ [])))
     ∷ Calls 0 (Gives 0 (Signals 0 1)) ∷ Calls 0 (WaitsFor 0 1) ∷ Completes 0 ∷ Completes 0 ∷ Wakes 0 ∷ Calls 0 (Loads (words_of b 0 4)) ∷ [])))
 
 -- what is said of executes on two queues, of which the second does not know the first
 abbrev pub judge_two : List Command → List Command → Verdict
-judge_two cs ds = judge_moves texture_setting (Calls 0 (Gives 0 (Executes cs)) ∷ Calls 0 (Gives 1 (Executes ds)) ∷ Completes 0 ∷ Completes 1 ∷ [])
+judge_two cs ds = judge_happenings texture_setting (Calls 0 (Gives 0 (Executes cs)) ∷ Calls 0 (Gives 1 (Executes ds)) ∷ Completes 0 ∷ Completes 1 ∷ [])
 
 -- the same where the second queue waits for a signal behind the first
 abbrev pub judge_two_in_order : List Command → List Command → Verdict
-judge_two_in_order cs ds = judge_moves texture_setting
+judge_two_in_order cs ds = judge_happenings texture_setting
     (Calls 0 (Gives 0 (Executes cs)) ∷ Calls 0 (Gives 0 (Signals 0 1)) ∷ Calls 1 (Gives 1 (Waits 0 1)) ∷ Calls 1 (Gives 1 (Executes ds))
     ∷ Completes 0 ∷ Completes 0 ∷ Completes 1 ∷ Completes 1 ∷ [])
 

@@ -1,4 +1,4 @@
--- What the events of a history are to clocks and to rules. Each call has its row here, and no other definition of the
+-- What happens at the events of a history, as clocks and rules see it. Each call has its row here, and no other definition of the
 -- judge has one for each call.
 use Rattle.std.specs.Prelude.{ℕ, List, [], ◌∷◌, map, length, ◌/◌, Option, Some, None}
 use Rattle.dx_base.specs.declared.hresult.Hresult.{Hresult}
@@ -30,10 +30,10 @@ pub data Deed : Type 0 where
   Nothing : Deed  -- none of these
 
 -- a thread's call, the waking of a thread, or the completion of a queue's oldest work
-pub data Move : Type 0 where
-  Calls : (thread : ℕ) → (what : Deed) → Move
-  Wakes : (thread : ℕ) → Move
-  Completes : (queue : ℕ) → Move
+pub data Happening : Type 0 where
+  Calls : (thread : ℕ) → (what : Deed) → Happening
+  Wakes : (thread : ℕ) → Happening
+  Completes : (queue : ℕ) → Happening
 
 -- what a call does that is not refused
 abbrev pub deed_of : Desk → Call → Deed
@@ -53,19 +53,19 @@ abbrev pub unless_refused : Option Hresult → Deed → Deed
 unless_refused None what = what
 unless_refused (Some e) what = Nothing
 
--- what an event is
-abbrev pub move_of : World → Desk → Event → Move
-move_of w d (event.Call t c r) = Calls t.0 (unless_refused (refusal w d c) (deed_of d c))
-move_of w d (event.Awake t) = Wakes t.0
-move_of w d (event.Queue q) = Completes q.0
+-- what happens at an event
+abbrev pub happening_of : World → Desk → Event → Happening
+happening_of w d (event.Call t c r) = Calls t.0 (unless_refused (refusal w d c) (deed_of d c))
+happening_of w d (event.Awake t) = Wakes t.0
+happening_of w d (event.Queue q) = Completes q.0
 
-abbrev pub moves_from : World → State → List Event → List Move
-moves_from w s [] = []
-moves_from w s (e ∷ h) = move_of w s.desk e ∷ moves_from w (after w s e) h
+abbrev pub happenings_from : World → State → List Event → List Happening
+happenings_from w s [] = []
+happenings_from w s (e ∷ h) = happening_of w s.desk e ∷ happenings_from w (after w s e) h
 
--- what the events of a history are, in order
-abbrev pub moves : World → List Event → List Move
-moves w h = moves_from w (first_state w) h
+-- what happens along a history, in order
+abbrev pub happenings : World → List Event → List Happening
+happenings w h = happenings_from w (first_state w) h
 
 -- an event with another reply
 abbrev pub with_reply : Reply → Event → Event
