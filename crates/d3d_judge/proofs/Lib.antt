@@ -10,3 +10,4 @@ pub mod Apart
 pub mod Later
 pub mod Judging
 pub mod Replies
+pub mod Tables

@@ -10,3 +10,4 @@ pub mod Covering
 pub mod Ahead
 pub mod Laws
 pub mod Rows
+pub mod Tables

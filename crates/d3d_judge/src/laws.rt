@@ -2,6 +2,7 @@
 
 ghost use Rattle.d3d_judge.specs.Laws.{StaySound, ClocksAreSound, LoadsAreFresh, StoresAreFresh, KnowAhead};
 ghost use Rattle.d3d_judge.specs.Laws.{CleanExecutesKnow, CleanClocksAre, MadeIsAll, TouchedAreAll, BrokenStays, RepliesPlayNoPart};
+ghost use Rattle.d3d_judge.specs.Tables.{TablesTell, QueueTablesTell, ThreadTablesTell};
 ghost use Rattle.d3d_judge.specs.Laws.{OfScopes, BreakNothing, ScopesCover, ChangesReach, AccessesAreAllowed, OpenedAreAll, CommandsApart, PlacesCount, LaterCovers};
 
 /// The clocks of a history know only calls that were made and operations that are complete.
@@ -102,4 +103,13 @@ pub fn places_count_commands()
 #[tactic(none)]
 pub fn later_accesses_cover()
     ensures { OfScopes LaterCovers }
+{}
+
+/// Tables of the greatest number at each word tell as much of B1 and B10 as the list of all that was touched, of
+/// every list: nothing in it has to be known to anybody, and nothing is ever taken out.
+#[tactic(none)]
+pub fn tables_tell_who_is_unknown()
+    ensures of_any { TablesTell }
+    ensures of_queues { QueueTablesTell }
+    ensures of_threads { ThreadTablesTell }
 {}
