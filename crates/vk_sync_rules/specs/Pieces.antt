@@ -1,0 +1,40 @@
+-- The words that a command touches, piece by piece.
+use Rattle.std.specs.Prelude.{◌+◌, Bool, true, false, ◌&&◌, ◌||◌, not, ◌==◌, nat_lt, List, [], ◌∷◌, ◌++◌, Option, Some, if◌then◌else◌}
+use Rattle.std.specs.List.{flat_map}
+use Rattle.vk_types.specs.declared.accesses.Accesses.{Accesses}
+use Rattle.vk_types.specs.declared.layouts.VkLayout.{VkLayout}
+use Rattle.vk_sync_rules.specs.declared.accesses.DoneAccess.{DoneAccess}
+use Rattle.vk_sync_rules.specs.declared.accesses.Maker.{Maker}
+use Rattle.vk_sync_rules.specs.declared.ranges.WordRange.{WordRange}
+use Rattle.vk_sync_rules.specs.AccessSets.{is_some_access}
+use Rattle.vk_sync_rules.specs.VkState.{VkState, words_in, is_there}
+
+-- a row of a copy, or a register: its words, and how it reads and writes them; no accesses where it does not
+pub record Piece : Type 0 where
+  pub range : WordRange
+  pub reads : Accesses
+  pub writes : Accesses
+  -- the layout that a copy names for an image
+  pub named : Option VkLayout
+
+-- a piece writes
+abbrev pub does_write : Piece → Bool
+does_write p = is_some_access p.writes
+
+-- the words that are written
+abbrev pub written_ranges : List Piece → List WordRange
+written_ranges ps = flat_map (λ p. if does_write p then p.range ∷ [] else []) ps
+
+-- one access of a command; none where it does not make it, or there is no word
+abbrev pub one_made : Maker → WordRange → Bool → Accesses → List DoneAccess
+one_made by range writes access =
+    if not (range.count == 0) && is_some_access access
+    then record { range = range; writes = writes; access = access; by = Some by; gains = []; signals = []; available = false } ∷ [] else []
+
+-- the accesses of a piece: its read, then its write
+abbrev pub made_by : Maker → Piece → List DoneAccess
+made_by by p = one_made by p.range false p.reads ++ one_made by p.range true p.writes
+
+-- a piece lies beyond the end of its buffer or image, or its image lacks the subresource
+abbrev pub is_outside : VkState → Piece → Bool
+is_outside v p = not (is_there v p.range.resource) || nat_lt (words_in v p.range.resource) (p.range.first + p.range.count)
