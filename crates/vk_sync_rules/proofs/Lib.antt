@@ -1,0 +1,9 @@
+pub mod Growth
+pub mod Soundness
+pub mod Barriers
+pub mod BatchEnds
+pub mod Makers
+pub mod EndedBatches
+pub mod LastWrites
+pub mod FirstState
+pub mod Knowledge

@@ -14,6 +14,16 @@ pub mod Commands
 pub mod EnabledSteps
 pub mod NextState
 pub mod Rules
+pub mod Runs
+pub mod Growth
+pub mod Soundness
+pub mod Barriers
+pub mod BatchEnds
+pub mod HostAccesses
+pub mod Makers
+pub mod FirstState
+pub mod LastWrites
+pub mod Knowledge
 pub mod Examples
 pub mod RuleRows
 pub mod NumberRows

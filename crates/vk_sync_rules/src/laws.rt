@@ -1,7 +1,16 @@
 //! Laws of the Vulkan machine. The functions do nothing.
 
+ghost use Rattle.vk_sync_rules.specs.Barriers.{BarriersClear, BarriersShow, StaysBehind};
+ghost use Rattle.vk_sync_rules.specs.BatchEnds.{StaysEnded, StaysPassed};
+ghost use Rattle.vk_sync_rules.specs.FirstState.{DevicesBegin, FirstBegins};
+ghost use Rattle.vk_sync_rules.specs.Growth.{GainsAddScopes, NothingShrinks};
+ghost use Rattle.vk_sync_rules.specs.HostAccesses.{SubmissionsHost};
+ghost use Rattle.vk_sync_rules.specs.Knowledge.{SeenGoesOn, SeenSplits};
+ghost use Rattle.vk_sync_rules.specs.LastWrites.{LastWritesAreLast};
+ghost use Rattle.vk_sync_rules.specs.Makers.{StaysOwned};
 ghost use Rattle.vk_sync_rules.specs.NumberRows.{NumberRows, StepRows};
 ghost use Rattle.vk_sync_rules.specs.RuleRows.{CommandRows, HostRows, LayoutRows, OrderRows, SubmitRows, WaitRows};
+ghost use Rattle.vk_sync_rules.specs.Soundness.{StaysSound};
 
 /// The worked rows of the rules, of the numbers that commands leave, and of the steps that can be taken.
 pub fn rows_compute()
@@ -13,4 +22,91 @@ pub fn rows_compute()
     ensures host { HostRows }
     ensures numbers { NumberRows }
     ensures steps { StepRows }
+{}
+
+/// What is ordered after an access that gains a scope, and what sees it: what was and did, and what the scope has.
+#[tactic(auto, using(crate::proofs::Growth::gains_add))]
+pub fn gains_add_scopes()
+    ensures { GainsAddScopes }
+{}
+
+/// What was ordered after an access, saw it or was signalled by it stays so, whatever steps are taken.
+#[tactic(auto, using(crate::proofs::Growth::keeps_steps))]
+pub fn nothing_shrinks()
+    ensures { NothingShrinks }
+{}
+
+/// The last write of a word is the last of those that write it.
+#[tactic(auto, using(crate::proofs::LastWrites::finds_last))]
+pub fn last_writes_are_last()
+    ensures { LastWritesAreLast }
+{}
+
+/// In a run, whatever has to be done before a done command is done.
+#[tactic(auto, using(crate::proofs::Soundness::sound_steps))]
+pub fn runs_stay_sound()
+    ensures { StaysSound }
+{}
+
+/// In a run, each access is behind each done barrier: ordered before its second scope where it is in the first one,
+/// and seen there where it is a write that the barrier made available, or that was available when it was reached.
+#[tactic(auto, using(crate::proofs::Barriers::behind_steps))]
+pub fn accesses_stay_behind_barriers()
+    ensures { StaysBehind }
+{}
+
+/// Behind a full barrier all commands come after what is in its first scope.
+#[tactic(auto, using(crate::proofs::FirstState::barriers_clear))]
+pub fn full_barriers_clear()
+    ensures { BarriersClear }
+{}
+
+/// Behind a barrier to the host, the host sees what was written before it.
+#[tactic(auto, using(crate::proofs::FirstState::barriers_show))]
+pub fn host_barriers_show()
+    ensures { BarriersShow }
+{}
+
+/// In a run, what a batch that has passed waited for comes before it, and what was made before a batch that has ended
+/// is signalled by the values that it set.
+#[tactic(auto, using(crate::proofs::BatchEnds::passed_steps))]
+pub fn batches_stay_passed()
+    ensures { StaysPassed }
+{}
+
+/// In a run, the commands of a batch that has ended are done.
+#[tactic(auto, using(crate::proofs::EndedBatches::ended_steps))]
+pub fn batches_stay_ended()
+    ensures { StaysEnded }
+{}
+
+/// In a run, each access has the done command that made it, or the host did.
+#[tactic(auto, using(crate::proofs::Makers::owned_steps))]
+pub fn accesses_stay_owned()
+    ensures { StaysOwned }
+{}
+
+/// A submission orders what the host did before it.
+#[tactic(auto, using(crate::proofs::FirstState::submissions_host))]
+pub fn submissions_order_the_host()
+    ensures { SubmissionsHost }
+{}
+
+/// A state in which nothing was done keeps what every state of a run keeps; that of a device that was just created is one.
+#[tactic(auto, using(crate::proofs::FirstState::first_begins, crate::proofs::FirstState::devices_begin))]
+pub fn first_states_begin()
+    ensures first { FirstBegins }
+    ensures device { DevicesBegin }
+{}
+
+/// What a batch knows, it sets or waits for, or an earlier batch that it knows knows it.
+#[tactic(auto, using(crate::proofs::Knowledge::seen_splits))]
+pub fn knowledge_splits()
+    ensures { SeenSplits }
+{}
+
+/// What batches know stays, where one more is submitted.
+#[tactic(auto, using(crate::proofs::Knowledge::seen_goes_on))]
+pub fn knowledge_goes_on()
+    ensures { SeenGoesOn }
 {}
