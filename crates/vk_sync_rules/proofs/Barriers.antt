@@ -34,6 +34,7 @@ use Rattle.vk_sync_rules.specs.declared.rules.VkRule.{VkRule}
 use Rattle.dx_base.specs.Each.{Each}
 use Rattle.dx_base.proofs.Each.{each_map, each_append, each_new, each_flat}
 use Rattle.vk_sync_rules.specs.Numbers.{Numbers}
+use Rattle.vk_types.specs.declared.plan.DevicePlan.{DevicePlan}
 
 -- places
 by_cases : (a b : Place) → is_by a b ≡ true → (is_before a b ≡ true) ⊎ (is_at a b ≡ true)
@@ -105,7 +106,7 @@ new_changes : (P : DoneAccess → Type 0) (v : VkState) (q : ℕ) (p : Place) (c
     ((from : Stages) (made : Accesses) (to : Stages) (seen : Accesses) (change : Change) → c ≡ Barrier from made to seen (Some change) → (s : ℕ) → P (change_made v q p to seen change.image s)) →
     Each P (changes_made v q p c)
 new_changes P v q p (Barrier from made to seen None) changed = tt
-new_changes P v q p (Barrier from made to seen (Some change)) changed = each_new P (change_made v q p to seen change.image) (changed from made to seen change refl) (subs_of v change)
+new_changes P v q p (Barrier from made to seen (Some change)) changed = each_new P (change_made v q p to seen change.image) (changed from made to seen change refl) (subs_of v.plan change)
 new_changes P v q p (Copy to to_first from from_first words) changed = tt
 new_changes P v q p (CopyImage to to_sub to_layout from from_sub from_layout) changed = tt
 new_changes P v q p (CopyIn image sub layout buffer first pitch) changed = tt
@@ -114,19 +115,19 @@ new_changes P v q p (Clear target word) changed = tt
 new_changes P v q p (Dispatch routine count t0 t1 u0 b0) changed = tt
 
 -- a barrier touches nothing by pieces
-barrier_cases : (v : VkState) (loaded : List ℕ) (c : VkCommand) → ((sort_of c).is_barrier ≡ false) ⊎ (pieces v loaded c ≡ [])
-barrier_cases v loaded (Barrier from made to seen change) = inr refl
-barrier_cases v loaded (Copy to to_first from from_first words) = inl refl
-barrier_cases v loaded (CopyImage to to_sub to_layout from from_sub from_layout) = inl refl
-barrier_cases v loaded (CopyIn image sub layout buffer first pitch) = inl refl
-barrier_cases v loaded (CopyOut buffer first pitch image sub layout) = inl refl
-barrier_cases v loaded (Clear target word) = inl refl
-barrier_cases v loaded (Dispatch routine count t0 t1 u0 b0) = inl refl
+barrier_cases : (plan : DevicePlan) (loaded : List ℕ) (c : VkCommand) → ((sort_of c).is_barrier ≡ false) ⊎ (pieces plan loaded c ≡ [])
+barrier_cases plan loaded (Barrier from made to seen change) = inr refl
+barrier_cases plan loaded (Copy to to_first from from_first words) = inl refl
+barrier_cases plan loaded (CopyImage to to_sub to_layout from from_sub from_layout) = inl refl
+barrier_cases plan loaded (CopyIn image sub layout buffer first pitch) = inl refl
+barrier_cases plan loaded (CopyOut buffer first pitch image sub layout) = inl refl
+barrier_cases plan loaded (Clear target word) = inl refl
+barrier_cases plan loaded (Dispatch routine count t0 t1 u0 b0) = inl refl
 
 pieces_made : (P : DoneAccess → Type 0) (v : VkState) (q : ℕ) (p : Place) (loaded : List ℕ) (c : VkCommand) →
-    ((sort_of c).is_barrier ≡ false → (range : WordRange) (writes : Bool) (access : Accesses) → P (fresh_access q p c range writes access)) → Each P (flat_map (made_by (maker_of q p c)) (pieces v loaded c))
-pieces_made P v q p loaded c plain = elim (barrier_cases v loaded c) [
-  | inl work ↦ new_pieces P q p c (plain work) (pieces v loaded c)
+    ((sort_of c).is_barrier ≡ false → (range : WordRange) (writes : Bool) (access : Accesses) → P (fresh_access q p c range writes access)) → Each P (flat_map (made_by (maker_of q p c)) (pieces v.plan loaded c))
+pieces_made P v q p loaded c plain = elim (barrier_cases v.plan loaded c) [
+  | inl work ↦ new_pieces P q p c (plain work) (pieces v.plan loaded c)
   | inr none ↦ subst (λ (ps : List Piece). Each P (flat_map (made_by (maker_of q p c)) ps)) (sym none) tt
 ]
 
@@ -135,10 +136,10 @@ pub new_made : (P : DoneAccess → Type 0) (v : VkState) (q : ℕ) (p : Place) (
     ((sort_of c).is_barrier ≡ false → (range : WordRange) (writes : Bool) (access : Accesses) → P (fresh_access q p c range writes access)) →
     ((from : Stages) (made : Accesses) (to : Stages) (seen : Accesses) (change : Change) → c ≡ Barrier from made to seen (Some change) → (s : ℕ) → P (change_made v q p to seen change.image s)) →
     Each P (made_at v q p loaded c)
-new_made P v q p loaded c plain changed = by_end (passes_end v loaded c) where
-  by_end : (t : Bool) → Each P (cond t [] (changes_made v q p c ++ flat_map (made_by (maker_of q p c)) (pieces v loaded c)))
+new_made P v q p loaded c plain changed = by_end (passes_end v.plan loaded c) where
+  by_end : (t : Bool) → Each P (cond t [] (changes_made v q p c ++ flat_map (made_by (maker_of q p c)) (pieces v.plan loaded c)))
   by_end true = tt
-  by_end false = each_append P (changes_made v q p c) (flat_map (made_by (maker_of q p c)) (pieces v loaded c)) (new_changes P v q p c changed) (pieces_made P v q p loaded c plain)
+  by_end false = each_append P (changes_made v q p c) (flat_map (made_by (maker_of q p c)) (pieces v.plan loaded c)) (new_changes P v q p c changed) (pieces_made P v q p loaded c plain)
 
 -- what the host makes anew
 pub new_host : (P : DoneAccess → Type 0) (v : VkState) (writes : Bool) (buffer first count : ℕ) → P (host_access writes buffer first count) → Each P (host_made v writes buffer first count)
@@ -304,15 +305,15 @@ module _ (v : VkState) (sound : IsSound v) (are : AreBehind v) where
       each_append (IsBehind q p from made to seen) (map (kept_by q p (Barrier from made to seen change)) v.accesses) (made_at v q p loaded (Barrier from made to seen change))
       (each_map IsHonest (IsBehind q p from made to seen) (kept_by q p (Barrier from made to seen change)) (λ r honest. behind_own q p from made to seen (in_scope q from p r) r refl honest) v.accesses are.honest)
       (by_change change) where
-        by_end : (c : Change) (t : Bool) → Each (IsBehind q p from made to seen) (cond t [] (map (change_made v q p to seen c.image) (subs_of v c) ++ []))
+        by_end : (c : Change) (t : Bool) → Each (IsBehind q p from made to seen) (cond t [] (map (change_made v q p to seen c.image) (subs_of v.plan c) ++ []))
         by_end c true = tt
         by_end c false =
-            each_append (IsBehind q p from made to seen) (map (change_made v q p to seen c.image) (subs_of v c)) []
-            (each_new (IsBehind q p from made to seen) (change_made v q p to seen c.image) (behind_change q p from made to seen v c.image) (subs_of v c)) tt
+            each_append (IsBehind q p from made to seen) (map (change_made v q p to seen c.image) (subs_of v.plan c)) []
+            (each_new (IsBehind q p from made to seen) (change_made v q p to seen c.image) (behind_change q p from made to seen v c.image) (subs_of v.plan c)) tt
 
         by_change : (c : Option Change) → Each (IsBehind q p from made to seen) (made_at v q p loaded (Barrier from made to seen c))
         by_change None = tt
-        by_change (Some c) = by_end c (lacks_sub v c)
+        by_change (Some c) = by_end c (lacks_sub v.plan c)
 
   -- a command is done
   behind_run : (q2 : ℕ) (p2 : Place) (loaded : List ℕ) (c2 : VkCommand) → command_at v q2 p2 ≡ Some c2 → is_done v.done q2 p2 ≡ false → AreBehind (after_run v q2 p2 loaded (Some c2))

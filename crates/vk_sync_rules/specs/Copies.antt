@@ -8,8 +8,8 @@ use Rattle.vk_sync_rules.specs.declared.ranges.WordRange.{WordRange}
 use Rattle.vk_sync_rules.specs.AccessSets.{no_accesses, copy_reads, copy_writes}
 use Rattle.vk_sync_rules.specs.Numbers.{up_to}
 use Rattle.vk_sync_rules.specs.Pieces.{Piece}
-use Rattle.vk_sync_rules.specs.Subresources.{row_words_of, row_count_of}
-use Rattle.vk_sync_rules.specs.VkState.{VkState, words_in}
+use Rattle.vk_sync_rules.specs.Sizes.{row_count_of, row_words_of, words_in}
+use Rattle.vk_types.specs.declared.plan.DevicePlan.{DevicePlan}
 
 -- a row of a copy: its words on both sides, and the layouts that the copy names for images
 pub record CopiedRow : Type 0 where
@@ -26,38 +26,38 @@ abbrev pub row_of_image : ℕ → ℕ → ℕ → ℕ → WordRange
 row_of_image image sub width row = record { resource = Image image sub; first = row * width; count = width }
 
 -- the rows that a command copies; between images they are one, as long as the first subresource
-abbrev pub copied_rows : VkState → VkCommand → List CopiedRow
-copied_rows v (Barrier from made to seen change) = []
-copied_rows v (Copy to to_first from from_first words) =
+abbrev pub copied_rows : DevicePlan → VkCommand → List CopiedRow
+copied_rows plan (Barrier from made to seen change) = []
+copied_rows plan (Copy to to_first from from_first words) =
     record {
       from = record { resource = Buffer from; first = from_first; count = words };
       from_layout = None;
       to = record { resource = Buffer to; first = to_first; count = words };
       to_layout = None;
     } ∷ []
-copied_rows v (CopyImage to to_sub to_layout from from_sub from_layout) =
+copied_rows plan (CopyImage to to_sub to_layout from from_sub from_layout) =
     record {
-      from = record { resource = Image from from_sub; first = 0; count = words_in v (Image from from_sub) };
+      from = record { resource = Image from from_sub; first = 0; count = words_in plan (Image from from_sub) };
       from_layout = Some from_layout;
-      to = record { resource = Image to to_sub; first = 0; count = words_in v (Image from from_sub) };
+      to = record { resource = Image to to_sub; first = 0; count = words_in plan (Image from from_sub) };
       to_layout = Some to_layout;
     } ∷ []
-copied_rows v (CopyIn image sub layout buffer first pitch) =
+copied_rows plan (CopyIn image sub layout buffer first pitch) =
     map (λ row. record {
-      from = row_of_buffer buffer first pitch (row_words_of v.plan image sub) row;
+      from = row_of_buffer buffer first pitch (row_words_of plan image sub) row;
       from_layout = None;
-      to = row_of_image image sub (row_words_of v.plan image sub) row;
+      to = row_of_image image sub (row_words_of plan image sub) row;
       to_layout = Some layout;
-    }) (up_to 0 (row_count_of v.plan image sub))
-copied_rows v (CopyOut buffer first pitch image sub layout) =
+    }) (up_to 0 (row_count_of plan image sub))
+copied_rows plan (CopyOut buffer first pitch image sub layout) =
     map (λ row. record {
-      from = row_of_image image sub (row_words_of v.plan image sub) row;
+      from = row_of_image image sub (row_words_of plan image sub) row;
       from_layout = Some layout;
-      to = row_of_buffer buffer first pitch (row_words_of v.plan image sub) row;
+      to = row_of_buffer buffer first pitch (row_words_of plan image sub) row;
       to_layout = None;
-    }) (up_to 0 (row_count_of v.plan image sub))
-copied_rows v (Clear target word) = []
-copied_rows v (Dispatch routine count t0 t1 u0 b0) = []
+    }) (up_to 0 (row_count_of plan image sub))
+copied_rows plan (Clear target word) = []
+copied_rows plan (Dispatch routine count t0 t1 u0 b0) = []
 
 -- the two sides of a row
 abbrev pub sides_of : CopiedRow → List Piece

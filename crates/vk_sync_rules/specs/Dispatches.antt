@@ -17,7 +17,7 @@ use Rattle.vk_sync_rules.specs.declared.ranges.WordRange.{WordRange}
 use Rattle.vk_sync_rules.specs.AccessSets.{no_accesses, shader_reads, uniform_reads, storage_reads, storage_writes}
 use Rattle.vk_sync_rules.specs.Numbers.{Numbers, numbers_in, stored}
 use Rattle.vk_sync_rules.specs.Registers.{words_of_register}
-use Rattle.vk_sync_rules.specs.VkState.{VkState}
+use Rattle.vk_types.specs.declared.plan.DevicePlan.{DevicePlan}
 use Rattle.vk_sync_rules.specs.Pieces.{Piece}
 
 -- the views of the registers of a dispatch
@@ -27,12 +27,12 @@ pub record DispatchViews : Type 0 where
   pub u0 : Option WordRange
   pub b0 : Option WordRange
 
-abbrev pub views_of : VkState → (ℕ × ℕ → ℕ) → Register → Register → Register → Register → DispatchViews
-views_of v answers t0 t1 u0 b0 = record {
-  t0 = words_of_register v answers Srv t0;
-  t1 = words_of_register v answers Srv t1;
-  u0 = words_of_register v answers Uav u0;
-  b0 = words_of_register v answers Cbv b0;
+abbrev pub views_of : DevicePlan → (ℕ × ℕ → ℕ) → Register → Register → Register → Register → DispatchViews
+views_of plan answers t0 t1 u0 b0 = record {
+  t0 = words_of_register plan answers Srv t0;
+  t1 = words_of_register plan answers Srv t1;
+  u0 = words_of_register plan answers Uav u0;
+  b0 = words_of_register plan answers Cbv b0;
 }
 
 -- the most invocations that a dispatch may have

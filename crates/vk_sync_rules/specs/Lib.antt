@@ -4,7 +4,7 @@ pub mod Ranges
 pub mod AccessSets
 pub mod DoneAccesses
 pub mod Numbers
-pub mod Subresources
+pub mod Sizes
 pub mod VkState
 pub mod Registers
 pub mod Pieces

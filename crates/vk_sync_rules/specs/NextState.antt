@@ -29,7 +29,8 @@ use Rattle.vk_sync_rules.specs.Copies.{CopiedRow, copied_rows}
 use Rattle.vk_sync_rules.specs.Dispatches.{views_of, after_dispatch}
 use Rattle.vk_sync_rules.specs.Pieces.{Piece, made_by, written_ranges}
 use Rattle.vk_sync_rules.specs.Registers.{answer_of, slots_of, words_of_register}
-use Rattle.vk_sync_rules.specs.VkState.{VkState, words_in, command_at, batch_in}
+use Rattle.vk_sync_rules.specs.VkState.{VkState, command_at, batch_in}
+use Rattle.vk_sync_rules.specs.Sizes.{words_in}
 
 -- a command at a place sees the last write of a word, if there is one
 abbrev pub is_seen : VkState → ℕ → Stages → Accesses → Place → VkResource → ℕ → Bool
@@ -60,11 +61,11 @@ is_undefined TransferDstOptimal = false
 
 -- the words of a subresource
 abbrev pub whole_sub : VkState → ℕ → ℕ → WordRange
-whole_sub v i s = record { resource = Image i s; first = 0; count = words_in v (Image i s) }
+whole_sub v i s = record { resource = Image i s; first = 0; count = words_in v.plan (Image i s) }
 
 -- the numbers after a layout change: from UNDEFINED any may stand (Vulkan 1.3, 7.7: image layout transitions)
 abbrev pub numbers_changed : VkState → Change → Numbers → Numbers
-numbers_changed v c m = if is_undefined c.old then opened_all (map (whole_sub v c.image) (subs_of v c)) m else m
+numbers_changed v c m = if is_undefined c.old then opened_all (map (whole_sub v c.image) (subs_of v.plan c)) m else m
 
 -- a number is not known
 abbrev pub is_open : Option ℕ → Bool
@@ -77,7 +78,7 @@ reads_open v q stage here p = is_some_access p.reads && list_any is_open (number
 
 -- the numbers after the rows of a copy
 abbrev pub numbers_copied : VkState → ℕ → Place → VkCommand → Numbers
-numbers_copied v q here c = rows_stored v q (sort_of c).takes here (copied_rows v c) v.numbers
+numbers_copied v q here c = rows_stored v q (sort_of c).takes here (copied_rows v.plan c) v.numbers
 
 -- the numbers after a clear: its word in all words of its view
 abbrev pub after_clear : Option WordRange → ℕ → Numbers → Numbers
@@ -94,16 +95,16 @@ numbers_written v q here loaded (CopyImage to to_sub to_layout from from_sub fro
 numbers_written v q here loaded (CopyIn image sub layout buffer first pitch) = numbers_copied v q here (CopyIn image sub layout buffer first pitch)
 numbers_written v q here loaded (CopyOut buffer first pitch image sub layout) = numbers_copied v q here (CopyOut buffer first pitch image sub layout)
 numbers_written v q here loaded (Clear target word) =
-    after_clear (words_of_register v (answer_of (slots_of (Clear target word)) loaded) Uav target) word v.numbers
+    after_clear (words_of_register v.plan (answer_of (slots_of (Clear target word)) loaded) Uav target) word v.numbers
 numbers_written v q here loaded (Dispatch routine count t0 t1 u0 b0) =
     let c : VkCommand = Dispatch routine count t0 t1 u0 b0 in
-    if list_any (reads_open v q (sort_of c).takes here) (pieces v loaded c) then opened_all (written_ranges (pieces v loaded c)) v.numbers
-    else after_dispatch routine count (views_of v (answer_of (slots_of c) loaded) t0 t1 u0 b0) b0 v.numbers
+    if list_any (reads_open v q (sort_of c).takes here) (pieces v.plan loaded c) then opened_all (written_ranges (pieces v.plan loaded c)) v.numbers
+    else after_dispatch routine count (views_of v.plan (answer_of (slots_of c) loaded) t0 t1 u0 b0) b0 v.numbers
 
 -- the numbers after a command; past an end, any may stand in the words of its destination
 abbrev pub numbers_after : VkState → ℕ → Place → List ℕ → VkCommand → Numbers
 numbers_after v q here loaded c =
-    if passes_end v loaded c then opened_all (written_ranges (pieces v loaded c)) v.numbers else numbers_written v q here loaded c
+    if passes_end v.plan loaded c then opened_all (written_ranges (pieces v.plan loaded c)) v.numbers else numbers_written v q here loaded c
 
 -- the access of a change of one subresource: a write in no stage, which is available, and ordered before and seen by the second
 -- scope of its barrier (Vulkan 1.3, 7.7)
@@ -121,7 +122,7 @@ change_made v q p to seen i s = record {
 -- the accesses of the change of a barrier
 abbrev pub changes_made : VkState → ℕ → Place → VkCommand → List DoneAccess
 changes_made v q p (Barrier from made to seen None) = []
-changes_made v q p (Barrier from made to seen (Some c)) = map (change_made v q p to seen c.image) (subs_of v c)
+changes_made v q p (Barrier from made to seen (Some c)) = map (change_made v q p to seen c.image) (subs_of v.plan c)
 changes_made v q p (Copy to to_first from from_first words) = []
 changes_made v q p (CopyImage to to_sub to_layout from from_sub from_layout) = []
 changes_made v q p (CopyIn image sub layout buffer first pitch) = []
@@ -136,7 +137,7 @@ maker_of q p c = record { queue = q; place = p; stage = (sort_of c).gives }
 -- the accesses that a command makes at a place; one that passes an end makes none
 abbrev pub made_at : VkState → ℕ → Place → List ℕ → VkCommand → List DoneAccess
 made_at v q p loaded c =
-    if passes_end v loaded c then [] else changes_made v q p c ++ flat_map (made_by (maker_of q p c)) (pieces v loaded c)
+    if passes_end v.plan loaded c then [] else changes_made v q p c ++ flat_map (made_by (maker_of q p c)) (pieces v.plan loaded c)
 
 -- what a command does to an access that was made
 abbrev pub kept_by : ℕ → Place → VkCommand → DoneAccess → DoneAccess
@@ -155,14 +156,14 @@ with_layout lay (s ∷ ss) ls = with_layout lay ss (slice_set ls s lay)
 
 -- the layouts after a command
 abbrev pub layouts_after : VkState → VkCommand → List (List VkLayout)
-layouts_after v c = elim (change_of c) [ None ↦ v.layouts | Some change ↦ changed_at (with_layout change.new (subs_of v change)) change.image v.layouts ]
+layouts_after v c = elim (change_of c) [ None ↦ v.layouts | Some change ↦ changed_at (with_layout change.new (subs_of v.plan change)) change.image v.layouts ]
 
 -- what a command, if there is one, does
 abbrev pub after_run : VkState → ℕ → Place → List ℕ → Option VkCommand → VkState
 after_run v q p loaded None = v
 after_run v q p loaded (Some c) = record v {
   numbers = numbers_after v q p loaded c;
-  layouts = if passes_end v loaded c then v.layouts else layouts_after v c;
+  layouts = if passes_end v.plan loaded c then v.layouts else layouts_after v c;
   done = record { queue = q; place = p } ∷ v.done;
   accesses = map (kept_by q p c) v.accesses ++ made_at v q p loaded c;
 }
@@ -189,7 +190,7 @@ host_range buffer first count = record { resource = Buffer buffer; first = first
 
 -- the host passes the end of a buffer
 abbrev pub host_passes_end : VkState → ℕ → ℕ → ℕ → Bool
-host_passes_end v buffer first count = nat_lt (words_in v (Buffer buffer)) (first + count)
+host_passes_end v buffer first count = nat_lt (words_in v.plan (Buffer buffer)) (first + count)
 
 -- one access of the host
 abbrev pub host_access : Bool → ℕ → ℕ → ℕ → DoneAccess

@@ -7,7 +7,8 @@ use Rattle.vk_sync_rules.specs.declared.accesses.DoneAccess.{DoneAccess}
 use Rattle.vk_sync_rules.specs.declared.accesses.Maker.{Maker}
 use Rattle.vk_sync_rules.specs.declared.ranges.WordRange.{WordRange}
 use Rattle.vk_sync_rules.specs.AccessSets.{is_some_access}
-use Rattle.vk_sync_rules.specs.VkState.{VkState, words_in, is_there}
+use Rattle.vk_sync_rules.specs.Sizes.{words_in, is_there}
+use Rattle.vk_types.specs.declared.plan.DevicePlan.{DevicePlan}
 
 -- a row of a copy, or a register: its words, and how it reads and writes them; no accesses where it does not
 pub record Piece : Type 0 where
@@ -36,5 +37,5 @@ abbrev pub made_by : Maker → Piece → List DoneAccess
 made_by by p = one_made by p.range false p.reads ++ one_made by p.range true p.writes
 
 -- a piece lies beyond the end of its buffer or image, or its image lacks the subresource
-abbrev pub is_outside : VkState → Piece → Bool
-is_outside v p = not (is_there v p.range.resource) || nat_lt (words_in v p.range.resource) (p.range.first + p.range.count)
+abbrev pub is_outside : DevicePlan → Piece → Bool
+is_outside plan p = not (is_there plan p.range.resource) || nat_lt (words_in plan p.range.resource) (p.range.first + p.range.count)

@@ -11,7 +11,8 @@ use Rattle.vk_types.specs.declared.registers.Register.{Register}
 use Rattle.vk_types.specs.declared.registers.Register.TheVariants.{Unbound, Constant, Root, Fixed, Slot}
 use Rattle.vk_sync_rules.specs.declared.ranges.VkResource.TheVariants.{Buffer, Image}
 use Rattle.vk_sync_rules.specs.declared.ranges.WordRange.{WordRange}
-use Rattle.vk_sync_rules.specs.VkState.{VkState, words_in}
+use Rattle.vk_sync_rules.specs.Sizes.{words_in}
+use Rattle.vk_types.specs.declared.plan.DevicePlan.{DevicePlan}
 
 -- the registers of a command, in the order of their loads
 abbrev pub registers_of : VkCommand → List Register
@@ -68,30 +69,30 @@ same_class Uav Srv = false
 same_class Uav Uav = true
 
 -- the words of a view of the plan; none where it has another class
-abbrev pub words_of_view : VkState → Class → PlanView → Option WordRange
-words_of_view v class (view.Buffer is buffer first words) =
+abbrev pub words_of_view : DevicePlan → Class → PlanView → Option WordRange
+words_of_view plan class (view.Buffer is buffer first words) =
     if same_class class is then Some (record { resource = Buffer buffer; first = first; count = words }) else None
-words_of_view v class (view.Image is image sub) =
-    if same_class class is then Some (record { resource = Image image sub; first = 0; count = words_in v (Image image sub) }) else None
+words_of_view plan class (view.Image is image sub) =
+    if same_class class is then Some (record { resource = Image image sub; first = 0; count = words_in plan (Image image sub) }) else None
 
-abbrev pub words_of_place : VkState → Class → ℕ → Option WordRange
-words_of_place v class k = elim (slice_get v.plan.views k) [ None ↦ None | Some is ↦ words_of_view v class is ]
+abbrev pub words_of_place : DevicePlan → Class → ℕ → Option WordRange
+words_of_place plan class k = elim (slice_get plan.views k) [ None ↦ None | Some is ↦ words_of_view plan class is ]
 
 -- the view that an answer names
-abbrev pub words_of_answer : VkState → Class → ℕ → Option WordRange
-words_of_answer v class zero = None
-words_of_answer v class (suc k) = words_of_place v class k
+abbrev pub words_of_answer : DevicePlan → Class → ℕ → Option WordRange
+words_of_answer plan class zero = None
+words_of_answer plan class (suc k) = words_of_place plan class k
 
 -- a buffer from a word on; no words where that lies past its end
-abbrev pub words_from : VkState → ℕ → ℕ → WordRange
-words_from v buffer first =
-    if nat_lt first (words_in v (Buffer buffer)) then record { resource = Buffer buffer; first = first; count = words_in v (Buffer buffer) - first }
+abbrev pub words_from : DevicePlan → ℕ → ℕ → WordRange
+words_from plan buffer first =
+    if nat_lt first (words_in plan (Buffer buffer)) then record { resource = Buffer buffer; first = first; count = words_in plan (Buffer buffer) - first }
     else record { resource = Buffer buffer; first = 0; count = 0 }
 
 -- the words that a register views, as one of a class, where a function gives the answers of slots
-abbrev pub words_of_register : VkState → (ℕ × ℕ → ℕ) → Class → Register → Option WordRange
-words_of_register v answers class Unbound = None
-words_of_register v answers class (Constant word) = None
-words_of_register v answers class (Root buffer first) = Some (words_from v buffer first)
-words_of_register v answers class (Fixed place) = words_of_place v class place
-words_of_register v answers class (Slot heap slot) = words_of_answer v class (answers (heap, slot))
+abbrev pub words_of_register : DevicePlan → (ℕ × ℕ → ℕ) → Class → Register → Option WordRange
+words_of_register plan answers class Unbound = None
+words_of_register plan answers class (Constant word) = None
+words_of_register plan answers class (Root buffer first) = Some (words_from plan buffer first)
+words_of_register plan answers class (Fixed place) = words_of_place plan class place
+words_of_register plan answers class (Slot heap slot) = words_of_answer plan class (answers (heap, slot))

@@ -70,7 +70,7 @@ is_change_in_order v q from made here i s =
 -- V1 of a barrier: its change is not in order
 abbrev pub is_change_unordered : VkState → ℕ → Place → VkCommand → Bool
 is_change_unordered v q here (Barrier from made to seen None) = false
-is_change_unordered v q here (Barrier from made to seen (Some c)) = not (list_all (is_change_in_order v q from made here c.image) (subs_of v c))
+is_change_unordered v q here (Barrier from made to seen (Some c)) = not (list_all (is_change_in_order v q from made here c.image) (subs_of v.plan c))
 is_change_unordered v q here (Copy to to_first from from_first words) = false
 is_change_unordered v q here (CopyImage to to_sub to_layout from from_sub from_layout) = false
 is_change_unordered v q here (CopyIn image sub layout buffer first pitch) = false
@@ -82,7 +82,7 @@ is_change_unordered v q here (Dispatch routine count t0 t1 u0 b0) = false
 abbrev pub is_unordered : VkState → ℕ → Place → List ℕ → VkCommand → Bool
 is_unordered v q here loaded c =
     is_change_unordered v q here c
-    || (some_collide (pieces v loaded c) || not (list_all (is_in_order v.accesses q (sort_of c).takes here) (pieces v loaded c)))
+    || (some_collide (pieces v.plan loaded c) || not (list_all (is_in_order v.accesses q (sort_of c).takes here) (pieces v.plan loaded c)))
 
 -- the place of a layout among all of them
 abbrev pub layout_place : VkLayout → ℕ
@@ -118,7 +118,7 @@ abbrev pub is_old : VkState → Change → ℕ → Bool
 is_old v c s = is_undefined c.old || same_layout c.old (layout_of v c.image s)
 
 abbrev pub is_wrong_change : VkState → VkCommand → Bool
-is_wrong_change v c = elim (change_of c) [ None ↦ false | Some change ↦ not (list_all (is_old v change) (subs_of v change)) ]
+is_wrong_change v c = elim (change_of c) [ None ↦ false | Some change ↦ not (list_all (is_old v change) (subs_of v.plan change)) ]
 
 -- V4: the values that earlier batches have still to set
 abbrev pub pending_sets : VkState → List (ℕ × ℕ)
@@ -185,8 +185,8 @@ least (r ∷ rs) = if r.1 then Some r.0 else least rs
 abbrev pub rule_of_command : VkState → ℕ → Place → List ℕ → Option VkCommand → Option VkRule
 rule_of_command v q here loaded None = None
 rule_of_command v q here loaded (Some c) =
-    if passes_end v loaded c then Some V7
-    else least ((V1, is_unordered v q here loaded c) ∷ (V2, list_any (is_wrong_layout v) (pieces v loaded c)) ∷ (V3, is_wrong_change v c) ∷ (V8, is_unsupported c) ∷ [])
+    if passes_end v.plan loaded c then Some V7
+    else least ((V1, is_unordered v q here loaded c) ∷ (V2, list_any (is_wrong_layout v) (pieces v.plan loaded c)) ∷ (V3, is_wrong_change v c) ∷ (V8, is_unsupported c) ∷ [])
 
 -- the least rule that a step breaks, if it breaks one
 abbrev pub rule_of : VkState → VkStep → Option VkRule

@@ -1,5 +1,5 @@
 -- The state of the Vulkan machine.
-use Rattle.std.specs.Prelude.{ℕ, zero, suc, ◌+◌, ◌==◌, Bool, true, ◌&&◌, nat_lt, List, [], ◌∷◌, ◌++◌, length, map, replicate, slice_get, slice_index_or, Option, Some, None, if◌then◌else◌}
+use Rattle.std.specs.Prelude.{ℕ, zero, suc, ◌+◌, ◌==◌, Bool, true, ◌&&◌, List, [], ◌∷◌, ◌++◌, map, replicate, slice_get, slice_index_or, Option, Some, None, if◌then◌else◌}
 use Rattle.std.specs.List.{list_any}
 use Rattle.vk_types.specs.declared.batches.Batch.{Batch}
 use Rattle.vk_types.specs.declared.commands.VkCommand.{VkCommand}
@@ -12,12 +12,10 @@ use Rattle.vk_sync_rules.specs.declared.accesses.DoneAccess.{DoneAccess}
 use Rattle.vk_sync_rules.specs.declared.counts.Counts.{Counts}
 use Rattle.vk_sync_rules.specs.declared.counts.Done.{Done}
 use Rattle.vk_sync_rules.specs.declared.places.Place.{Place}
-use Rattle.vk_sync_rules.specs.declared.ranges.VkResource.{VkResource}
-use Rattle.vk_sync_rules.specs.declared.ranges.VkResource.TheVariants.{Buffer, Image}
 use Rattle.vk_sync_rules.specs.declared.rules.VkRule.{VkRule}
-use Rattle.vk_sync_rules.specs.Numbers.{Numbers, numbers_in}
+use Rattle.vk_sync_rules.specs.Numbers.{Numbers}
 use Rattle.vk_sync_rules.specs.Places.{is_at}
-use Rattle.vk_sync_rules.specs.Subresources.{each_word, sub_count}
+use Rattle.vk_sync_rules.specs.Sizes.{each_word, sub_count}
 
 -- what the Vulkan machine knows
 pub record VkState : Type 0 where
@@ -75,15 +73,6 @@ first_state plan = record {
 -- the value of a timeline
 abbrev pub counter_of : VkState → ℕ → ℕ
 counter_of v t = slice_index_or v.timelines t 0
-
--- how many words a buffer or a subresource has
-abbrev pub words_in : VkState → VkResource → ℕ
-words_in v resource = length (numbers_in v.numbers resource)
-
--- it is there
-abbrev pub is_there : VkState → VkResource → Bool
-is_there v (Buffer b) = nat_lt b (length v.numbers.buffers)
-is_there v (Image i s) = nat_lt s (length (slice_index_or v.numbers.images i []))
 
 -- the batch of a queue with a number
 abbrev pub batch_in : ℕ → ℕ → List Batch → Option Batch
