@@ -1,4 +1,5 @@
 -- Each access is behind each done barrier, along a run.
+use Rattle.std.specs.Prelude.{slice_get}
 use Rattle.std.proofs.Common.{◌≡◌, ℕ, ◌<◌, ◌==◌, ◌∙◌, Bool, true, false, not, ◌&&◌, ◌||◌, cond, ◌⊎◌, inl, inr, List, [], ◌∷◌, ◌++◌, map, refl, sym, ap, subst, arith, true≢false, Option, Some, None, eq-eqb}
 use Rattle.std.specs.List.{list_any, flat_map}
 use Rattle.std.proofs.lemmas.Bool.{and_parts, and_from, or_cases, or_right, or_left, or_from, cases_Bool, eqb-true, false≢true, false_from_ne_true}
@@ -32,9 +33,10 @@ use Rattle.vk_sync_rules.specs.declared.places.Place.{Place}
 use Rattle.vk_sync_rules.specs.declared.ranges.WordRange.{WordRange}
 use Rattle.vk_sync_rules.specs.declared.rules.VkRule.{VkRule}
 use Rattle.dx_base.specs.Each.{Each}
-use Rattle.dx_base.proofs.Each.{each_map, each_append, each_new, each_flat}
+use Rattle.dx_base.proofs.Each.{each_map, each_append, each_new, each_from}
 use Rattle.vk_sync_rules.specs.Numbers.{Numbers}
 use Rattle.vk_types.specs.declared.plan.DevicePlan.{DevicePlan}
+use Rattle.vk_sync_rules.specs.Makers.{IsOfPiece}
 
 -- places
 by_cases : (a b : Place) → is_by a b ≡ true → (is_before a b ≡ true) ⊎ (is_at a b ≡ true)
@@ -89,24 +91,38 @@ abbrev pub fresh_access : ℕ → Place → VkCommand → WordRange → Bool →
 fresh_access q p c range writes access = record { range = range; writes = writes; access = access; by = Some (maker_of q p c); gains = []; signals = []; available = false }
 
 new_one : (P : DoneAccess → Type 0) (q : ℕ) (p : Place) (c : VkCommand) (range : WordRange) (writes : Bool) (access : Accesses) →
-    P (fresh_access q p c range writes access) → Each P (one_made (maker_of q p c) range writes access)
-new_one P q p c range writes access h = by_test (not (range.count == 0) && is_some_access access) where
-  by_test : (t : Bool) → Each P (cond t (fresh_access q p c range writes access ∷ []) [])
-  by_test true = (h, tt)
-  by_test false = tt
+    (is_some_access access ≡ true → P (fresh_access q p c range writes access)) → Each P (one_made (maker_of q p c) range writes access)
+new_one P q p c range writes access h = by_test (not (range.count == 0) && is_some_access access) refl where
+  by_test : (t : Bool) → (not (range.count == 0) && is_some_access access) ≡ t → Each P (cond t (fresh_access q p c range writes access ∷ []) [])
+  by_test true e = (h (and_parts (not (range.count == 0)) (is_some_access access) e).1, tt)
+  by_test false e = tt
 
-new_pieces : (P : DoneAccess → Type 0) (q : ℕ) (p : Place) (c : VkCommand) → ((range : WordRange) (writes : Bool) (access : Accesses) → P (fresh_access q p c range writes access)) →
-    (ps : List Piece) → Each P (flat_map (made_by (maker_of q p c)) ps)
-new_pieces P q p c h ps =
-    each_flat P (made_by (maker_of q p c)) (λ x. each_append P (one_made (maker_of q p c) x.range false x.reads) (one_made (maker_of q p c) x.range true x.writes)
-    (new_one P q p c x.range false x.reads (h x.range false x.reads)) (new_one P q p c x.range true x.writes (h x.range true x.writes))) ps
+-- an item with its place in a list
+abbrev pub IsIn : {A : Type 0} → List A → A → Type 0
+IsIn xs x = (i : ℕ) × (slice_get xs i ≡ Some x)
+
+each_in : {A : Type 0} (xs : List A) → Each (IsIn xs) xs
+each_in xs = each_from (IsIn xs) xs (λ i x e. (i, e))
+
+each_flat_of : {A B : Type 0} (Q : A → Type 0) (P : B → Type 0) (f : A → List B) → ((x : A) → Q x → Each P (f x)) → (xs : List A) → Each Q xs → Each P (flat_map f xs)
+each_flat_of Q P f h [] all = tt
+each_flat_of Q P f h (x ∷ xs) all = each_append P (f x) (flat_map f xs) (h x all.0) (each_flat_of Q P f h xs all.1)
+
+new_pieces : (P : DoneAccess → Type 0) (q : ℕ) (p : Place) (c : VkCommand) (ps : List Piece) →
+    ((range : WordRange) (writes : Bool) (access : Accesses) → IsOfPiece ps (fresh_access q p c range writes access) → P (fresh_access q p c range writes access)) →
+    Each P (flat_map (made_by (maker_of q p c)) ps)
+new_pieces P q p c ps h =
+    each_flat_of (IsIn ps) P (made_by (maker_of q p c)) (λ x at. each_append P (one_made (maker_of q p c) x.range false x.reads) (one_made (maker_of q p c) x.range true x.writes)
+    (new_one P q p c x.range false x.reads (λ some. h x.range false x.reads (record { place = at.0; piece = x; there = at.1; range = refl; access = refl; some = some })))
+    (new_one P q p c x.range true x.writes (λ some. h x.range true x.writes (record { place = at.0; piece = x; there = at.1; range = refl; access = refl; some = some })))) ps (each_in ps)
 
 -- what the change of a barrier makes anew
 new_changes : (P : DoneAccess → Type 0) (v : VkState) (q : ℕ) (p : Place) (c : VkCommand) →
-    ((from : Stages) (made : Accesses) (to : Stages) (seen : Accesses) (change : Change) → c ≡ Barrier from made to seen (Some change) → (s : ℕ) → P (change_made v q p to seen change.image s)) →
+    ((from : Stages) (made : Accesses) (to : Stages) (seen : Accesses) (change : Change) → c ≡ Barrier from made to seen (Some change) → (s : ℕ) → IsIn (subs_of v.plan change) s → P (change_made v q p to seen change.image s)) →
     Each P (changes_made v q p c)
 new_changes P v q p (Barrier from made to seen None) changed = tt
-new_changes P v q p (Barrier from made to seen (Some change)) changed = each_new P (change_made v q p to seen change.image) (changed from made to seen change refl) (subs_of v.plan change)
+new_changes P v q p (Barrier from made to seen (Some change)) changed =
+    each_map (IsIn (subs_of v.plan change)) P (change_made v q p to seen change.image) (changed from made to seen change refl) (subs_of v.plan change) (each_in (subs_of v.plan change))
 new_changes P v q p (Copy to to_first from from_first words) changed = tt
 new_changes P v q p (CopyImage to to_sub to_layout from from_sub from_layout) changed = tt
 new_changes P v q p (CopyIn image sub layout buffer first pitch) changed = tt
@@ -124,17 +140,20 @@ barrier_cases plan loaded (CopyOut buffer first pitch image sub layout) = inl re
 barrier_cases plan loaded (Clear target word) = inl refl
 barrier_cases plan loaded (Dispatch routine count t0 t1 u0 b0) = inl refl
 
-pieces_made : (P : DoneAccess → Type 0) (v : VkState) (q : ℕ) (p : Place) (loaded : List ℕ) (c : VkCommand) →
-    ((sort_of c).is_barrier ≡ false → (range : WordRange) (writes : Bool) (access : Accesses) → P (fresh_access q p c range writes access)) → Each P (flat_map (made_by (maker_of q p c)) (pieces v.plan loaded c))
+-- a property of what a command that is no barrier makes anew of one of its pieces
+abbrev pub OfPieces : (DoneAccess → Type 0) → VkState → ℕ → Place → List ℕ → VkCommand → Type 0
+OfPieces P v q p loaded c =
+    (sort_of c).is_barrier ≡ false → (range : WordRange) (writes : Bool) (access : Accesses) → IsOfPiece (pieces v.plan loaded c) (fresh_access q p c range writes access) → P (fresh_access q p c range writes access)
+
+pieces_made : (P : DoneAccess → Type 0) (v : VkState) (q : ℕ) (p : Place) (loaded : List ℕ) (c : VkCommand) → OfPieces P v q p loaded c → Each P (flat_map (made_by (maker_of q p c)) (pieces v.plan loaded c))
 pieces_made P v q p loaded c plain = elim (barrier_cases v.plan loaded c) [
-  | inl work ↦ new_pieces P q p c (plain work) (pieces v.plan loaded c)
+  | inl work ↦ new_pieces P q p c (pieces v.plan loaded c) (plain work)
   | inr none ↦ subst (λ (ps : List Piece). Each P (flat_map (made_by (maker_of q p c)) ps)) (sym none) tt
 ]
 
 -- what a command makes anew: accesses of its pieces, where it is no barrier, and layout changes, where it is one
-pub new_made : (P : DoneAccess → Type 0) (v : VkState) (q : ℕ) (p : Place) (loaded : List ℕ) (c : VkCommand) →
-    ((sort_of c).is_barrier ≡ false → (range : WordRange) (writes : Bool) (access : Accesses) → P (fresh_access q p c range writes access)) →
-    ((from : Stages) (made : Accesses) (to : Stages) (seen : Accesses) (change : Change) → c ≡ Barrier from made to seen (Some change) → (s : ℕ) → P (change_made v q p to seen change.image s)) →
+pub new_made : (P : DoneAccess → Type 0) (v : VkState) (q : ℕ) (p : Place) (loaded : List ℕ) (c : VkCommand) → OfPieces P v q p loaded c →
+    ((from : Stages) (made : Accesses) (to : Stages) (seen : Accesses) (change : Change) → c ≡ Barrier from made to seen (Some change) → (s : ℕ) → IsIn (subs_of v.plan change) s → P (change_made v q p to seen change.image s)) →
     Each P (made_at v q p loaded c)
 new_made P v q p loaded c plain changed = by_end (passes_end v.plan loaded c) where
   by_end : (t : Bool) → Each P (cond t [] (changes_made v q p c ++ flat_map (made_by (maker_of q p c)) (pieces v.plan loaded c)))
@@ -290,10 +309,10 @@ module _ (v : VkState) (sound : IsSound v) (are : AreBehind v) where
 
     behind_new : (loaded : List ℕ) → Each (IsBehind q p from made to seen) (made_at v q2 p2 loaded c2)
     behind_new loaded = new_made (IsBehind q p from made to seen) v q2 p2 loaded c2
-        (λ work range writes access. behind_none q p from made to seen _
+        (λ work range writes access is. behind_none q p from made to seen _
         (or_from ((q2 == q) && (meets (sort_of c2).gives from && is_before p2 p)) false
         (new_late (sort_of c2).gives (λ before m. and_from ((sort_of c2).is_barrier || true) (meets (sort_of c2).gives from) (or_right (sort_of c2).is_barrier true refl) m)) refl))
-        (λ from2 made2 to2 seen2 change2 e s. behind_none q p from made to seen _
+        (λ from2 made2 to2 seen2 change2 e s at. behind_none q p from made to seen _
         (or_from ((q2 == q) && (meets (record { 0 = 0 }) from && is_before p2 p)) (((q2 == q) && (meets to2 from && is_by p2 p)) || false)
         (new_late (record { 0 = 0 }) (λ before m. absurd (no_stage m)))
         (or_from ((q2 == q) && (meets to2 from && is_by p2 p)) false (gives_late from2 made2 to2 seen2 (Some change2) e) refl)))
@@ -320,7 +339,7 @@ module _ (v : VkState) (sound : IsSound v) (are : AreBehind v) where
   behind_run q2 p2 loaded c2 has2 left = record {
     honest = each_append IsHonest (map (kept_by q2 p2 c2) v.accesses) (made_at v q2 p2 loaded c2)
         (each_map IsHonest IsHonest (kept_by q2 p2 c2) (honest_command q2 p2 c2) v.accesses are.honest)
-        (new_made IsHonest v q2 p2 loaded c2 (λ work range writes access. record { available = λ q stages p h. absurd (false≢true h) }) (λ from made to seen change e s. record { available = λ q stages p h. refl }));
+        (new_made IsHonest v q2 p2 loaded c2 (λ work range writes access is. record { available = λ q stages p h. absurd (false≢true h) }) (λ from made to seen change e s at. record { available = λ q stages p h. refl }));
     behind = λ q p from made to seen change has done. elim (done_cases q2 p2 v.done q p done) [
       | inl new ↦
           let command : c2 ≡ Barrier from made to seen change = same_item c2 (Barrier from made to seen change) (sym (subst (λ x. command_at v x p ≡ Some c2) new.0 (subst (λ y. command_at v q2 y ≡ Some c2) new.1 has2)) ∙ has) in

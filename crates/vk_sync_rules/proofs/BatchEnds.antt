@@ -12,7 +12,7 @@ use Rattle.vk_types.specs.Stages.{meets}
 use Rattle.vk_types.specs.declared.steps.VkStep.{VkStep}
 use Rattle.vk_types.specs.declared.steps.VkStep.TheVariants.{Submit, Pass, Command, Bump, HostWrite, HostRead, Update}
 use Rattle.vk_types.specs.declared.layouts.Change.{Change}
-use Rattle.vk_sync_rules.proofs.Barriers.{fresh_access, new_host, new_made}
+use Rattle.vk_sync_rules.proofs.Barriers.{IsIn, OfPieces, new_host, new_made}
 use Rattle.vk_sync_rules.proofs.Growth.{covered_more}
 use Rattle.vk_sync_rules.proofs.Soundness.{batch_cases, same_item, changed_cases, kept_field, got_changed, enabled_command, enabled_pass}
 use Rattle.vk_sync_rules.specs.AccessSets.{all_accesses, all_stages, share}
@@ -20,7 +20,6 @@ use Rattle.vk_sync_rules.specs.BatchEnds.{ArePassed, IsEnded, IsSignalled, IsRea
 use Rattle.vk_sync_rules.specs.DoneAccesses.{after_bump, after_pass, after_submit, avail, covers, gain_where, gives_order, in_scope, is_covered, is_ended, is_made_available}
 use Rattle.vk_sync_rules.specs.EnabledSteps.{is_enabled, reached}
 use Rattle.vk_sync_rules.specs.NextState.{after_run, after_sets, change_made, host_access, host_made, kept_by, made_at, moved, sets_in, waits_in}
-use Rattle.vk_sync_rules.specs.Orders.{sort_of}
 use Rattle.vk_sync_rules.specs.Rules.{after_step, after_steps}
 use Rattle.vk_sync_rules.specs.Runs.{Fits, Runs, are_new}
 use Rattle.vk_sync_rules.specs.VkState.{VkState, batch_in, command_at, counts_of, no_counts}
@@ -28,11 +27,11 @@ use Rattle.vk_sync_rules.specs.declared.accesses.DoneAccess.{DoneAccess}
 use Rattle.vk_sync_rules.specs.declared.accesses.Gain.{Gain}
 use Rattle.vk_sync_rules.specs.declared.counts.Counts.{Counts}
 use Rattle.vk_sync_rules.specs.declared.places.Place.{Place}
-use Rattle.vk_sync_rules.specs.declared.ranges.WordRange.{WordRange}
 use Rattle.vk_sync_rules.specs.declared.rules.VkRule.{VkRule}
 use Rattle.dx_base.specs.Each.{Each}
 use Rattle.dx_base.proofs.Each.{each_map, each_append}
 use Rattle.vk_sync_rules.specs.Numbers.{Numbers}
+use Rattle.vk_sync_rules.specs.Commands.{subs_of}
 
 -- covered pairs
 pub covered_cases : (waits more signals : List (ℕ × ℕ)) → is_covered waits (more ++ signals) ≡ true → (is_covered waits more ≡ true) ⊎ (is_covered waits signals ≡ true)
@@ -188,9 +187,8 @@ kept_cases P q p one two (Clear target word) r h = h
 kept_cases P q p one two (Dispatch routine count t0 t1 u0 b0) r h = h
 
 -- each access after a command has what accesses keep and new ones have
-pub kept_all : (P : DoneAccess → Type 0) (v : VkState) (q : ℕ) (p : Place) (loaded : List ℕ) (c : VkCommand) → ((r : DoneAccess) → P r → P (kept_by q p c r)) → Each P v.accesses →
-    ((sort_of c).is_barrier ≡ false → (range : WordRange) (writes : Bool) (access : Accesses) → P (fresh_access q p c range writes access)) →
-    ((from : Stages) (made : Accesses) (to : Stages) (seen : Accesses) (change : Change) → c ≡ Barrier from made to seen (Some change) → (s : ℕ) → P (change_made v q p to seen change.image s)) →
+pub kept_all : (P : DoneAccess → Type 0) (v : VkState) (q : ℕ) (p : Place) (loaded : List ℕ) (c : VkCommand) → ((r : DoneAccess) → P r → P (kept_by q p c r)) → Each P v.accesses → OfPieces P v q p loaded c →
+    ((from : Stages) (made : Accesses) (to : Stages) (seen : Accesses) (change : Change) → c ≡ Barrier from made to seen (Some change) → (s : ℕ) → IsIn (subs_of v.plan change) s → P (change_made v q p to seen change.image s)) →
     Each P (map (kept_by q p c) v.accesses ++ made_at v q p loaded c)
 kept_all P v q p loaded c keep all plain changed =
     each_append P (map (kept_by q p c) v.accesses) (made_at v q p loaded c) (each_map P P (kept_by q p c) keep v.accesses all) (new_made P v q p loaded c plain changed)
@@ -210,17 +208,17 @@ module _ (v : VkState) (are : ArePassed v) where
     waited = are.waited;
     known = kept_all IsSignalled v q2 p2 loaded c2
         (kept_cases IsSignalled q2 p2 known_avail (λ t to seen r h. known_where t q2 p2 to seen r h) c2) are.known
-        (λ work range writes access. record { available = λ waits h w. absurd (false≢true h) }) (λ from made to seen change e s. record { available = λ waits h w. absurd (false≢true h) });
+        (λ work range writes access is. record { available = λ waits h w. absurd (false≢true h) }) (λ from made to seen change e s at. record { available = λ waits h w. absurd (false≢true h) });
     ended = λ q n b is less.
         let none : ((q2 == q) && nat_le n2 n) ≡ false = late_by q2 q n2 n (λ same. let at : (counts_of v q2).ended ≡ (counts_of v q).ended = ap (λ x. (counts_of v x).ended) same in omega (arith, running, less, at)) in
         kept_all (IsEnded q n b.sets) v q2 p2 loaded c2
         (kept_cases (IsEnded q n b.sets) q2 p2 (ended_avail q n b.sets) (λ t to seen r h. ended_where q n b.sets t q2 p2 to seen r none h) c2) (are.ended q n b is less)
-        (λ work range writes access. ended_none q n b.sets _ (or_from ((q2 == q) && nat_le n2 n) false none refl))
-        (λ from made to seen change e s. ended_none q n b.sets _ (or_from ((q2 == q) && nat_le n2 n) (((q2 == q) && nat_le n2 n) || false) none (or_from ((q2 == q) && nat_le n2 n) false none refl)));
+        (λ work range writes access is. ended_none q n b.sets _ (or_from ((q2 == q) && nat_le n2 n) false none refl))
+        (λ from made to seen change e s at. ended_none q n b.sets _ (or_from ((q2 == q) && nat_le n2 n) (((q2 == q) && nat_le n2 n) || false) none (or_from ((q2 == q) && nat_le n2 n) false none refl)));
     reach = λ q n b is less.
         kept_all (IsReached q n b.waits) v q2 p2 loaded c2
         (kept_cases (IsReached q n b.waits) q2 p2 (reached_avail q n b.waits) (λ t to seen r h. reached_where q n b.waits t q2 p2 to seen r h) c2) (are.reach q n b is less)
-        (λ work range writes access. reached_none q n b.waits _ refl) (λ from made to seen change e s. reached_none q n b.waits _ refl);
+        (λ work range writes access is. reached_none q n b.waits _ refl) (λ from made to seen change e s at. reached_none q n b.waits _ refl);
   } where
     p2 : Place
     p2 = record { number = n2; index = k2 }

@@ -65,8 +65,8 @@ first_begins v is = record { sound = sound; behind = behind; passed = passed; en
   ended : AreEnded v
   ended = record { done = λ q n b h less. no_batch q n b h }
 
-  owned : Each (HasOwner v.done v.journal) v.accesses
-  owned = each_none (HasOwner v.done v.journal) v.accesses is.accesses
+  owned : Each (HasOwner v.plan v.done v.journal) v.accesses
+  owned = each_none (HasOwner v.plan v.done v.journal) v.accesses is.accesses
 
 -- a device that was just created
 first_counts_of : (n k q : ℕ) → (slice_index_or (replicate k (first_counts n)) q no_counts).ended ≡ (slice_index_or (replicate k (first_counts n)) q no_counts).submitted

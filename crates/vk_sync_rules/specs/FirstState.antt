@@ -3,10 +3,9 @@ use Rattle.std.specs.Prelude.{ℕ, ◌≡◌, []}
 use Rattle.vk_types.specs.declared.plan.DevicePlan.{DevicePlan}
 use Rattle.vk_sync_rules.specs.Barriers.{AreBehind}
 use Rattle.vk_sync_rules.specs.BatchEnds.{ArePassed, AreEnded}
-use Rattle.vk_sync_rules.specs.Makers.{HasOwner}
+use Rattle.vk_sync_rules.specs.Makers.{AreOwned}
 use Rattle.vk_sync_rules.specs.Soundness.{IsSound}
 use Rattle.vk_sync_rules.specs.VkState.{VkState, counts_of, first_state}
-use Rattle.dx_base.specs.Each.{Each}
 
 -- nothing is submitted, done or accessed
 pub record IsFirst (v : VkState) : Type 0 where
@@ -21,7 +20,7 @@ pub record Begins (v : VkState) : Type 0 where
   pub behind : AreBehind v
   pub passed : ArePassed v
   pub ended : AreEnded v
-  pub owned : Each (HasOwner v.done v.journal) v.accesses
+  pub owned : AreOwned v
 
 abbrev pub FirstBegins : Type 0
 FirstBegins = (v : VkState) → IsFirst v → Begins v

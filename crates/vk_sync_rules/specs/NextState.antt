@@ -31,6 +31,7 @@ use Rattle.vk_sync_rules.specs.Pieces.{Piece, made_by, written_ranges}
 use Rattle.vk_sync_rules.specs.Registers.{answer_of, slots_of, words_of_register}
 use Rattle.vk_sync_rules.specs.VkState.{VkState, command_at, batch_in}
 use Rattle.vk_sync_rules.specs.Sizes.{words_in}
+use Rattle.vk_types.specs.declared.plan.DevicePlan.{DevicePlan}
 
 -- a command at a place sees the last write of a word, if there is one
 abbrev pub is_seen : VkState → ℕ → Stages → Accesses → Place → VkResource → ℕ → Bool
@@ -60,12 +61,12 @@ is_undefined TransferSrcOptimal = false
 is_undefined TransferDstOptimal = false
 
 -- the words of a subresource
-abbrev pub whole_sub : VkState → ℕ → ℕ → WordRange
-whole_sub v i s = record { resource = Image i s; first = 0; count = words_in v.plan (Image i s) }
+abbrev pub whole_sub : DevicePlan → ℕ → ℕ → WordRange
+whole_sub plan i s = record { resource = Image i s; first = 0; count = words_in plan (Image i s) }
 
 -- the numbers after a layout change: from UNDEFINED any may stand (Vulkan 1.3, 7.7: image layout transitions)
 abbrev pub numbers_changed : VkState → Change → Numbers → Numbers
-numbers_changed v c m = if is_undefined c.old then opened_all (map (whole_sub v c.image) (subs_of v.plan c)) m else m
+numbers_changed v c m = if is_undefined c.old then opened_all (map (whole_sub v.plan c.image) (subs_of v.plan c)) m else m
 
 -- a number is not known
 abbrev pub is_open : Option ℕ → Bool
@@ -110,7 +111,7 @@ numbers_after v q here loaded c =
 -- scope of its barrier (Vulkan 1.3, 7.7)
 abbrev pub change_made : VkState → ℕ → Place → Stages → Accesses → ℕ → ℕ → DoneAccess
 change_made v q p to seen i s = record {
-  range = whole_sub v i s;
+  range = whole_sub v.plan i s;
   writes = true;
   access = no_accesses;
   by = Some (record { queue = q; place = p; stage = no_stages });

@@ -65,7 +65,7 @@ some_collide (p ∷ ps) = list_any (collide p) ps || some_collide ps
 abbrev pub is_change_in_order : VkState → ℕ → Stages → Accesses → Place → ℕ → ℕ → Bool
 is_change_in_order v q from made here i s =
     list_all (λ (r : DoneAccess). not (same_resource (Image i s) r.range.resource) || in_scope q from here r) v.accesses
-    && each_last (λ w. w.available || is_made_available q here from made w) (whole_sub v i s) v.accesses
+    && each_last (λ w. w.available || is_made_available q here from made w) (whole_sub v.plan i s) v.accesses
 
 -- V1 of a barrier: its change is not in order
 abbrev pub is_change_unordered : VkState → ℕ → Place → VkCommand → Bool
