@@ -1,5 +1,5 @@
 -- A routine is an action on its accesses.
-use Rattle.std.proofs.Common.{ℕ, zero, suc, ◌≡◌, ◌<◌, ◌≤◌, ◌+◌, ◌-◌, ◌/◌, ◌==◌, ◌∙◌, refl, sym, ap, subst, Bool, true, false, ◌&&◌, ◌||◌, nat_lt, nat_le, min, List, [], ◌∷◌, ◌++◌, map, Option, Some, None, arith, if◌then◌else◌}
+use Rattle.std.proofs.Common.{ℕ, zero, suc, ◌≡◌, ◌<◌, ◌≤◌, ◌+◌, ◌-◌, ◌==◌, ◌∙◌, refl, sym, ap, subst, Bool, true, false, ◌&&◌, ◌||◌, nat_lt, List, [], ◌∷◌, ◌++◌, map, Option, Some, None, arith, if◌then◌else◌}
 use Rattle.std.specs.List.{list_any}
 use Rattle.std.proofs.lemmas.Bool.{lt-ltb, ltb-true}
 use Rattle.std.proofs.lemmas.List.Folds.{list_any-append}
@@ -18,11 +18,11 @@ use Rattle.routines.specs.declared.stores.Store.{Store}
 use Rattle.routines.specs.declared.touches.Touch.{Touch}
 use Rattle.routines.specs.declared.uses.Extent.{Extent}
 use Rattle.routines.specs.Cells.{Cell, cell, same_cell}
-use Rattle.routines.specs.Effect.{store_in, stores_by, stores_of, cell_of_store, stored, after_stores, after_routine}
+use Rattle.routines.specs.Effect.{store_in, stores_by, stores_of, cell_of_store, stored, after_stores}
 use Rattle.routines.specs.Laws.{RoutinesAreActions}
 use Rattle.routines.specs.Numbers.{cell_of, numbers_of}
 use Rattle.routines.specs.Puts.{put_at, puts_before, puts_of, kept, word_at, writers}
-use Rattle.routines.specs.Touches.{touch, touch_of, touches_of, view_of, has_cell, is_read, is_written}
+use Rattle.routines.specs.Touches.{touch_of, touches_of, view_of, has_cell, is_read, is_written}
 use Rattle.routines.specs.Uses.{uses_of, words_used}
 use Rattle.routines.proofs.Counting.{by_cases}
 use Rattle.routines.proofs.Reading.{of_t0, of_t1, of_b0, of_u0, some_of_u0, stores_same, any_first, any_second}

@@ -1,6 +1,6 @@
 -- Actions that are apart commute.
-use Rattle.std.proofs.Common.{◌≡◌, ◌∙◌, sym, refl, Bool, true, false, arith}
-use Rattle.routines.specs.Actions.{IsAction, AreApart, ActionsCommute}
+use Rattle.std.proofs.Common.{◌≡◌, ◌∙◌, sym, Bool, true, false}
+use Rattle.routines.specs.Actions.{IsAction, ActionsCommute}
 use Rattle.routines.proofs.Counting.{by_cases}
 
 module _ (C : Type 0) (N : Type 0) where

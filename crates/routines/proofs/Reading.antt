@@ -1,7 +1,6 @@
 -- What is stored goes by the numbers of the words that are read.
-use Rattle.std.proofs.Common.{ℕ, zero, suc, ◌≡◌, ◌<◌, ◌+◌, ◌==◌, ◌∙◌, refl, sym, ap, subst, Bool, true, false, ◌&&◌, ◌||◌, nat_lt, nat_le, List, [], ◌∷◌, ◌++◌, Option, Some, None, arith, if◌then◌else◌, slice_index_or}
+use Rattle.std.proofs.Common.{ℕ, zero, suc, ◌≡◌, ◌<◌, ◌==◌, ◌∙◌, refl, sym, ap, Bool, true, false, ◌&&◌, ◌||◌, List, [], ◌∷◌, ◌++◌, Option, Some, None, arith, if◌then◌else◌, slice_index_or}
 use Rattle.std.specs.List.{list_any}
-use Rattle.std.proofs.lemmas.Bool.{lt-ltb}
 use Rattle.dx_base.specs.declared.kinds.Routine.{Routine}
 use Rattle.dx_base.specs.declared.kinds.View.{View}
 use Rattle.dx_flags.specs.declared.accesses.Access.{Access}
@@ -13,13 +12,12 @@ use Rattle.routines.specs.declared.bounds.Source0.TheVariants as source
 use Rattle.routines.specs.declared.touches.Touch.{Touch}
 use Rattle.routines.specs.declared.uses.Extent.{Extent}
 use Rattle.routines.specs.declared.uses.Extent.TheVariants.{Nothing}
-use Rattle.routines.specs.declared.uses.Uses.{Uses}
 use Rattle.routines.specs.Cells.{Cell}
 use Rattle.routines.specs.Effect.{stores_by}
 use Rattle.routines.specs.Laws.{StoresGoByReads}
 use Rattle.routines.specs.Numbers.{cell_of, first_numbers, numbers_at, constant_of, numbers_of}
-use Rattle.routines.specs.Touches.{touch, touch_of, touches_of, view_of, has_cell, is_read, is_written}
-use Rattle.routines.specs.Uses.{uses_of, words_used, read_of_u0}
+use Rattle.routines.specs.Touches.{touch, touch_of, touches_of, view_of, has_cell, is_read}
+use Rattle.routines.specs.Uses.{uses_of, words_used}
 use Rattle.routines.proofs.Counting.{by_cases}
 
 -- a test of some item of two lists, one behind the other

@@ -1,5 +1,5 @@
 -- What is stored are words of those that are written.
-use Rattle.std.proofs.Common.{ℕ, zero, suc, ◌≡◌, ◌<◌, ◌+◌, ◌/◌, ◌==◌, ◌∙◌, refl, sym, ap, subst, Bool, true, false, ◌&&◌, min, List, [], ◌∷◌, ◌++◌, map, Option, Some, None, arith, if◌then◌else◌}
+use Rattle.std.proofs.Common.{ℕ, ◌≡◌, ◌<◌, ◌+◌, ◌/◌, ◌==◌, refl, sym, subst, Bool, true, false, ◌&&◌, min, Option, Some, None, arith, if◌then◌else◌}
 use Rattle.dx_base.specs.Each.{Each}
 use Rattle.dx_base.proofs.Each.{each_map, each_on}
 use Rattle.dx_base.specs.declared.kinds.Routine.{Routine}
@@ -7,16 +7,15 @@ use Rattle.dx_base.specs.declared.kinds.Routine.TheVariants.{Fill, Move, Add, Mu
 use Rattle.dx_base.specs.declared.kinds.View.{View}
 use Rattle.dx_flags.specs.AccessNames.{UNORDERED_ACCESS}
 use Rattle.dx_flags.specs.Accesses.{one_access}
-use Rattle.routines.specs.declared.bounds.Bound.{Bound}
 use Rattle.routines.specs.declared.numbers.Numbers.{Numbers}
 use Rattle.routines.specs.declared.puts.Put.{Put}
 use Rattle.routines.specs.declared.stores.Store.{Store}
 use Rattle.routines.specs.declared.touches.Touch.{Touch}
 use Rattle.routines.specs.Effect.{store_in, stores_by, cell_of_store}
 use Rattle.routines.specs.Laws.{StoresAreWrites}
-use Rattle.routines.specs.Numbers.{cell_of, numbers_of}
+use Rattle.routines.specs.Numbers.{numbers_of}
 use Rattle.routines.specs.Puts.{puts_of}
-use Rattle.routines.specs.Touches.{touch_of, touches_of, has_cell, is_written}
+use Rattle.routines.specs.Touches.{touch_of, has_cell, is_written}
 use Rattle.routines.specs.Uses.{uses_of, words_used}
 use Rattle.routines.proofs.Counting.{each_put}
 use Rattle.routines.proofs.Reading.{touch_has, some_of_u0}

@@ -1,5 +1,5 @@
 -- The laws of the routines.
-use Rattle.std.specs.Prelude.{◌≡◌, ℕ, Bool, true}
+use Rattle.std.specs.Prelude.{◌≡◌, ℕ, true}
 use Rattle.dx_base.specs.Each.{Each}
 use Rattle.dx_base.specs.declared.kinds.Routine.{Routine}
 use Rattle.routines.specs.declared.bounds.Bound.{Bound}

@@ -35,6 +35,6 @@ abbrev pub numbers_of : (Cell → ℕ) → Routine → Bound → ℕ → Numbers
 numbers_of memory routine bound n = record {
   t0 = numbers_at memory bound.t0 (uses_of routine).t0 n;
   t1 = numbers_at memory bound.t1 (uses_of routine).t1 n;
-  u0 = numbers_at memory bound.u0 (read_of_u0 (uses_of routine)) n;
+  u0 = numbers_at memory bound.u0 (read_of_u0 routine) n;
   c = constant_of memory bound.b0 (uses_of routine).b0 n;
 }

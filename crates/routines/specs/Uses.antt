@@ -1,5 +1,5 @@
 -- How much of each register a routine uses: the table of what the routines read and write.
-use Rattle.std.specs.Prelude.{ℕ, ◌+◌, ◌/◌, ◌==◌, min, Bool, true, false, if◌then◌else◌}
+use Rattle.std.specs.Prelude.{ℕ, ◌+◌, ◌/◌, ◌==◌, min, true, false, if◌then◌else◌}
 use Rattle.dx_base.specs.declared.kinds.Routine.{Routine}
 use Rattle.dx_base.specs.declared.kinds.Routine.TheVariants.{Fill, Move, Add, Mul, Gather, Scatter, Sums, Histogram}
 use Rattle.routines.specs.declared.uses.Extent.{Extent}
@@ -25,6 +25,6 @@ words_used Invocations n has = min n has
 words_used Groups n has = min ((n + 63) / 64) has
 words_used Whole n has = if n == 0 then 0 else has
 
--- what is read of u0
-abbrev pub read_of_u0 : Uses → Extent
-read_of_u0 uses = if uses.updates then uses.u0 else Nothing
+-- what a routine reads of u0
+abbrev pub read_of_u0 : Routine → Extent
+read_of_u0 routine = if (uses_of routine).updates then (uses_of routine).u0 else Nothing

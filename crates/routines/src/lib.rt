@@ -23,4 +23,4 @@ pub use numbers::Numbers;
 pub use puts::{Put, puts_by};
 pub use stores::{Store, effect};
 pub use touches::{Touch, accesses};
-pub use uses::{Extent, Uses};
+pub use uses::{Extent, Uses, read_of_u0};

@@ -7,7 +7,7 @@ ghost use Rattle.routines.specs.Touches.{AreViews, EndsBelow, view_of};
 
 use crate::bounds::{Bound, Source0};
 use crate::memory::WordsOf;
-use crate::uses::{Extent, Uses};
+use crate::uses::{Extent, Uses, read_of_u0};
 use dx_base::{Memory, Routine, Seq, View};
 use std::alloc::Global;
 
@@ -105,7 +105,7 @@ impl Numbers {
         Ok(Numbers {
             t0: numbers_at(alloc, memory, bound.t0, used.t0, n)?,
             t1: numbers_at(alloc, memory, bound.t1, used.t1, n)?,
-            u0: numbers_at(alloc, memory, bound.u0, used.read_of_u0(), n)?,
+            u0: numbers_at(alloc, memory, bound.u0, read_of_u0(routine), n)?,
             c: constant(alloc, memory, bound.b0, used.b0, n)?,
         })
     }

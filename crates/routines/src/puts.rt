@@ -94,7 +94,7 @@ fn put_in_order(
     requires routine { routine ≢ Routine.Histogram }
     ensures { IfOk result (λ puts. puts ≡ puts_before routine m numbers.now count) }
 {
-    let mut puts = Seq::new(alloc);
+    let mut puts: Seq<Put> = Seq::new(alloc);
     for i in 0..count {
         let word = word_for(routine, m, numbers, i);
         let value = value_for(routine, m, numbers, i);

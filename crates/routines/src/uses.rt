@@ -1,7 +1,7 @@
 //! How much of each register a routine uses.
 
 ghost use Rattle.std.specs.Prelude.{◌≡◌, ◌+◌, ◌/◌, ◌≤◌, true, false};
-ghost use Rattle.routines.specs.Uses.{uses_of, words_used, read_of_u0};
+ghost use Rattle.routines.specs.Uses.{uses_of, words_used, read_of_u0 as read_of};
 
 use dx_base::Routine;
 
@@ -73,16 +73,17 @@ impl Uses {
             Routine::Histogram => updating(Extent::Nothing),
         }
     }
+}
 
-    /// What is read of u0.
-    pub fn read_of_u0(self) -> Extent
-        ensures { result ≡ read_of_u0 self }
-    {
-        if self.updates {
-            self.u0
-        } else {
-            Extent::Nothing
-        }
+/// What a routine reads of u0.
+pub fn read_of_u0(routine: Routine) -> Extent
+    ensures { result ≡ read_of routine }
+{
+    let used = Uses::of(routine);
+    if used.updates {
+        used.u0
+    } else {
+        Extent::Nothing
     }
 }
 
