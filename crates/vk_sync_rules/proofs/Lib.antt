@@ -7,3 +7,5 @@ pub mod EndedBatches
 pub mod LastWrites
 pub mod FirstState
 pub mod Knowledge
+pub mod Gains
+pub mod Entries

@@ -23,6 +23,7 @@ pub mod HostAccesses
 pub mod Makers
 pub mod FirstState
 pub mod LastWrites
+pub mod Entries
 pub mod Knowledge
 pub mod Examples
 pub mod RuleRows
