@@ -71,14 +71,14 @@ none_covered timelines waits (s ∷ sets) all new h =
     ]
 
 -- timelines only rise
-set_cases : (xs : List ℕ) (k x i : ℕ) → (get_or (set xs k x) i 0 ≡ get_or xs i 0) ⊎ ((i ≡ k) × (get_or (set xs k x) i 0 ≡ x))
+pub set_cases : (xs : List ℕ) (k x i : ℕ) → (get_or (set xs k x) i 0 ≡ get_or xs i 0) ⊎ ((i ≡ k) × (get_or (set xs k x) i 0 ≡ x))
 set_cases [] k x i = inl refl
 set_cases (y ∷ ys) zero x zero = inr (refl, refl)
 set_cases (y ∷ ys) zero x (suc i) = inl refl
 set_cases (y ∷ ys) (suc k) x zero = inl refl
 set_cases (y ∷ ys) (suc k) x (suc i) = elim (set_cases ys k x i) [ inl e ↦ inl e | inr e ↦ inr (ap suc e.0, e.1) ]
 
-rise : (first timelines : List ℕ) (sets : List (ℕ × ℕ)) → ((t : ℕ) → get_or first t 0 ≤ get_or timelines t 0) → are_new first sets ≡ true → (t : ℕ) → get_or first t 0 ≤ get_or (after_sets sets timelines) t 0
+pub rise : (first timelines : List ℕ) (sets : List (ℕ × ℕ)) → ((t : ℕ) → get_or first t 0 ≤ get_or timelines t 0) → are_new first sets ≡ true → (t : ℕ) → get_or first t 0 ≤ get_or (after_sets sets timelines) t 0
 rise first timelines [] h new t = h t
 rise first timelines (s ∷ sets) h new t =
     let parts = and_parts (nat_lt (get_or first s.0 0) s.1) (are_new first sets) new in

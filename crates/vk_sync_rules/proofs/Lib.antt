@@ -9,3 +9,4 @@ pub mod FirstState
 pub mod Knowledge
 pub mod Gains
 pub mod Entries
+pub mod Timelines

@@ -25,6 +25,7 @@ pub mod FirstState
 pub mod LastWrites
 pub mod Entries
 pub mod Knowledge
+pub mod Timelines
 pub mod Examples
 pub mod RuleRows
 pub mod NumberRows
