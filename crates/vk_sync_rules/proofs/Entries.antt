@@ -142,9 +142,9 @@ earlier_enter v m n r has by less = by_sort (barrier_or_work o.command) where
   by_sort : ((sort_of o.command).is_barrier ≡ false) ⊎ ((from : Stages) × (made : Accesses) × (to : Stages) × (seen : Accesses) × (change : Option Change) × (o.command ≡ Barrier from made to seen change)) → Enters m.queue n r
   by_sort (inl work) =
       let direct : is_direct m.queue all_stages (leading_of n) r ≡ true =
-          direct_of m.queue all_stages (leading_of n) r m by.is
-          (and_from (m.queue == m.queue) (meets m.stage all_stages && is_before m.place (leading_of n)) (eq-eqb m.queue m.queue refl)
-          (and_from (meets m.stage all_stages) (is_before m.place (leading_of n)) (subst (λ s. meets s all_stages ≡ true) (sym (o.plain work)) device) before)) in
+      direct_of m.queue all_stages (leading_of n) r m by.is
+      (and_from (m.queue == m.queue) (meets m.stage all_stages && is_before m.place (leading_of n)) (eq-eqb m.queue m.queue refl)
+      (and_from (meets m.stage all_stages) (is_before m.place (leading_of n)) (subst (λ s. meets s all_stages ≡ true) (sym (o.plain work)) device) before)) in
       record {
         scope = or_left (is_direct m.queue all_stages (leading_of n) r) (ordered m.queue all_stages (leading_of n) r) direct;
         ready = λ w. or_left (is_made_available m.queue (leading_of n) all_stages every_write r) (reaches m.queue all_stages (leading_of n) r)

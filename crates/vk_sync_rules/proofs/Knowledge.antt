@@ -64,7 +64,7 @@ seen_goes_on es [] b = refl
 seen_goes_on es (c ∷ bs) b = seen_goes_on (es ++ seen es c ∷ []) bs b
 
 -- an item that a test holds of
-any_at : {A : Type 0} (f : A → Bool) (xs : List A) → list_any f xs ≡ true → (i : ℕ) × (x : A) × (slice_get xs i ≡ Some x) × (f x ≡ true)
+pub any_at : {A : Type 0} (f : A → Bool) (xs : List A) → list_any f xs ≡ true → (i : ℕ) × (x : A) × (slice_get xs i ≡ Some x) × (f x ≡ true)
 any_at f [] h = absurd (false≢true h)
 any_at f (x ∷ xs) h = elim (or_cases (f x) (list_any f xs) h) [
   | inl here ↦ (0, x, refl, here)

@@ -10,3 +10,4 @@ pub mod Knowledge
 pub mod Gains
 pub mod Entries
 pub mod Timelines
+pub mod KnownBatches

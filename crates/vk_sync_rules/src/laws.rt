@@ -2,6 +2,7 @@
 
 ghost use Rattle.vk_sync_rules.specs.Barriers.{BarriersClear, BarriersShow, StaysBehind};
 ghost use Rattle.vk_sync_rules.specs.BatchEnds.{StaysEnded, StaysPassed};
+ghost use Rattle.vk_sync_rules.specs.Entries.{EarlierEnter, EnteredAreCovered, EnteredStay, HostEnters, WaitsEnter};
 ghost use Rattle.vk_sync_rules.specs.FirstState.{DevicesBegin, FirstBegins};
 ghost use Rattle.vk_sync_rules.specs.Growth.{GainsAddScopes, NothingShrinks};
 ghost use Rattle.vk_sync_rules.specs.HostAccesses.{SubmissionsHost};
@@ -11,6 +12,7 @@ ghost use Rattle.vk_sync_rules.specs.Makers.{StaysOwned};
 ghost use Rattle.vk_sync_rules.specs.NumberRows.{NumberRows, StepRows};
 ghost use Rattle.vk_sync_rules.specs.RuleRows.{CommandRows, HostRows, LayoutRows, OrderRows, SubmitRows, WaitRows};
 ghost use Rattle.vk_sync_rules.specs.Soundness.{StaysSound};
+ghost use Rattle.vk_sync_rules.specs.Timelines.{FirstIsTimed, KnownEnter, KnownIsDone, StaysTimed};
 
 /// The worked rows of the rules, of the numbers that commands leave, and of the steps that can be taken.
 pub fn rows_compute()
@@ -109,4 +111,40 @@ pub fn knowledge_splits()
 #[tactic(auto, using(crate::proofs::Knowledge::seen_goes_on))]
 pub fn knowledge_goes_on()
     ensures { SeenGoesOn }
+{}
+
+/// What was made in an earlier batch of the queue, by the host before the submission, or before what the batch waited
+/// for, enters the batch: it is in the first scope of a full barrier that leads it. It enters the later batches, too.
+#[tactic(auto, using(crate::proofs::Entries::earlier_enter, crate::proofs::Entries::host_enters, crate::proofs::Entries::waits_enter, crate::proofs::Entries::entered_stay))]
+pub fn earlier_accesses_enter()
+    ensures earlier { EarlierEnter }
+    ensures host { HostEnters }
+    ensures waits { WaitsEnter }
+    ensures stays { EnteredStay }
+{}
+
+/// Where a full barrier leads a batch, what enters the batch comes before each of its commands that can run.
+#[tactic(auto, using(crate::proofs::Entries::entered_covered))]
+pub fn entered_accesses_come_before()
+    ensures { EnteredAreCovered }
+{}
+
+/// A run whose submissions are orderly is one whose ends set new values; the values of its batches rise, and are reached
+/// just by the ends of those that set them.
+#[tactic(auto, using(crate::proofs::Timelines::timed_steps, crate::proofs::Timelines::first_timed))]
+pub fn values_rise()
+    ensures runs { StaysTimed }
+    ensures first { FirstIsTimed }
+{}
+
+/// What a batch that has passed knows by its waits alone is done, but for its own queue; once it has ended, all is.
+#[tactic(auto, using(crate::proofs::KnownBatches::known_done))]
+pub fn known_batches_are_done()
+    ensures { KnownIsDone }
+{}
+
+/// The accesses of a batch enter each batch that has passed and knows a value that it sets.
+#[tactic(auto, using(crate::proofs::KnownBatches::known_enter))]
+pub fn known_accesses_enter()
+    ensures { KnownEnter }
 {}

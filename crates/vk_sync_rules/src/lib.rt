@@ -13,9 +13,10 @@ pub use accesses::{DoneAccess, Gain, Maker};
 pub use counts::{Counts, Done};
 pub use laws::{
     accesses_stay_behind_barriers, accesses_stay_owned, batches_stay_ended, batches_stay_passed,
-    first_states_begin, full_barriers_clear, gains_add_scopes, host_barriers_show,
-    knowledge_goes_on, knowledge_splits, last_writes_are_last, nothing_shrinks, rows_compute,
-    runs_stay_sound, submissions_order_the_host,
+    earlier_accesses_enter, entered_accesses_come_before, first_states_begin, full_barriers_clear,
+    gains_add_scopes, host_barriers_show, knowledge_goes_on, knowledge_splits,
+    known_accesses_enter, known_batches_are_done, last_writes_are_last, nothing_shrinks,
+    rows_compute, runs_stay_sound, submissions_order_the_host, values_rise,
 };
 pub use places::Place;
 pub use ranges::{VkResource, WordRange};
