@@ -101,7 +101,7 @@ module _ (owner : ℕ → ℕ) (v : VkState) (are : ArePassed v) (is : AreTimed 
   known_done = all_up_to_date (doing_of owner v) [] v.journal (all_obey [] [] v.journal refl refl none_of) tt
 
 -- an item that is found, and a test of it
-got_any : {A : Type 0} (f : A → Bool) (xs : List A) (k : ℕ) (x : A) → slice_get xs k ≡ Some x → f x ≡ true → list_any f xs ≡ true
+pub got_any : {A : Type 0} (f : A → Bool) (xs : List A) (k : ℕ) (x : A) → slice_get xs k ≡ Some x → f x ≡ true → list_any f xs ≡ true
 got_any f [] zero x e h = absurd (none-some x e)
 got_any f [] (suc k) x e h = absurd (none-some x e)
 got_any f (y ∷ xs) zero x e h = or_left (f y) (list_any f xs) (subst (λ z. f z ≡ true) (sym (same_item y x e)) h)

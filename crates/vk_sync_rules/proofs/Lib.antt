@@ -11,3 +11,4 @@ pub mod Gains
 pub mod Entries
 pub mod Timelines
 pub mod KnownBatches
+pub mod HostAccesses

@@ -120,7 +120,7 @@ placed_got f n k (suc i) m (x ∷ cs) d all h e =
     let parts = and_parts (f (record { place = record { number = n; index = k }; command = x })) (list_all f (placed_from n (k + 1) cs)) all in
     placed_got f n (k + 1) i m cs d parts.1 h (omega (arith, e))
 
-nth_got : (f : Placed → Bool) (n k : ℕ) (cs : List VkCommand) (d : VkCommand) → list_all f (placed_from n 1 cs) ≡ true → nth_command cs k ≡ Some d →
+pub nth_got : (f : Placed → Bool) (n k : ℕ) (cs : List VkCommand) (d : VkCommand) → list_all f (placed_from n 1 cs) ≡ true → nth_command cs k ≡ Some d →
     f (record { place = record { number = n; index = k }; command = d }) ≡ true
 nth_got f n zero cs d all h = absurd (none-some d h)
 nth_got f n (suc k) cs d all h = placed_got f n 1 k (suc k) cs d all h (omega arith)

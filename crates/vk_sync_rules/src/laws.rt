@@ -5,7 +5,7 @@ ghost use Rattle.vk_sync_rules.specs.BatchEnds.{StaysEnded, StaysPassed};
 ghost use Rattle.vk_sync_rules.specs.Entries.{EarlierEnter, EnteredAreCovered, EnteredStay, HostEnters, WaitsEnter};
 ghost use Rattle.vk_sync_rules.specs.FirstState.{DevicesBegin, FirstBegins};
 ghost use Rattle.vk_sync_rules.specs.Growth.{GainsAddScopes, NothingShrinks};
-ghost use Rattle.vk_sync_rules.specs.HostAccesses.{SubmissionsHost};
+ghost use Rattle.vk_sync_rules.specs.HostAccesses.{HostReadsSee, SubmissionsHost};
 ghost use Rattle.vk_sync_rules.specs.Knowledge.{SeenGoesOn, SeenSplits};
 ghost use Rattle.vk_sync_rules.specs.LastWrites.{LastWritesAreLast};
 ghost use Rattle.vk_sync_rules.specs.Makers.{StaysOwned};
@@ -92,6 +92,13 @@ pub fn accesses_stay_owned()
 #[tactic(auto, using(crate::proofs::FirstState::submissions_host))]
 pub fn submissions_order_the_host()
     ensures { SubmissionsHost }
+{}
+
+/// Behind the end of a batch with a barrier to the host, the host comes after what is in the barrier's first scope, and
+/// sees what was written there.
+#[tactic(auto, using(crate::proofs::HostAccesses::host_sees))]
+pub fn host_reads_see()
+    ensures { HostReadsSee }
 {}
 
 /// A state in which nothing was done keeps what every state of a run keeps; that of a device that was just created is one.
