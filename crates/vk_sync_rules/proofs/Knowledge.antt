@@ -1,10 +1,11 @@
 -- What batches know splits.
 use Rattle.std.specs.Prelude.{nat_le}
 use Rattle.std.specs.List.{list_any}
+use Rattle.std.proofs.lemmas.Option.{none-some}
 use Rattle.std.proofs.lemmas.Bool.{or_cases, and_parts, eqb-true, false≢true}
-use Rattle.std.proofs.Common.{ap, ◌∙◌, ◌&&◌, ℕ, zero, suc, ◌≤◌, ◌<◌, ◌≡◌, ◌==◌, ◌⊎◌, List, [], ◌∷◌, ◌++◌, refl, arith, inl, inr, cond, max, true, false, Bool, Some, slice_get}
+use Rattle.std.proofs.Common.{sym, ap, ◌∙◌, ◌&&◌, ℕ, zero, suc, ◌≤◌, ◌<◌, ◌≡◌, ◌==◌, ◌⊎◌, List, [], ◌∷◌, ◌++◌, refl, arith, inl, inr, cond, max, true, false, Bool, Some, slice_get, subst, Option, unwrap_or}
 use Rattle.vk_types.specs.declared.batches.Batch.{Batch}
-use Rattle.vk_sync_rules.specs.Knowledge.{AllObey, Doing, IsAfter, IsAmong, IsKnown, IsUpToDate, Knows, Obeys, Seen, each_of, is_known, join, known, only, seen, seens, sets_for, value_in}
+use Rattle.vk_sync_rules.specs.Knowledge.{AllObey, Doing, IsAfter, IsAmong, IsKnown, KeepsKnown, IsUpToDate, Knows, Obeys, Seen, each_of, is_known, join, known, only, seen, seens, sets_for, value_in}
 use Rattle.dx_base.specs.Each.{Each}
 use Rattle.dx_base.proofs.Each.{each_append, each_got}
 
@@ -57,6 +58,39 @@ seen_splits es b t v pos k = elim (knows_join (each_of b.sets) (join (each_of b.
     | inr others ↦ inr (inr (knows_known b es t v pos others))
   ]
 ]
+
+-- a join knows what either of the two knows
+join_left : (a b : List ℕ) (t v : ℕ) → Knows a t v → Knows (join a b) t v
+join_left a b t v k = grind (arith, value_join a b t, k)
+
+join_right : (a b : List ℕ) (t v : ℕ) → Knows b t v → Knows (join a b) t v
+join_right a b t v k = grind (arith, value_join a b t, k)
+
+only_knows : (t v : ℕ) → Knows (only t v) t v
+only_knows zero v = omega arith
+only_knows (suc t) v = only_knows t v
+
+each_knows : (ss : List (ℕ × ℕ)) (k : ℕ) (s : ℕ × ℕ) → slice_get ss k ≡ Some s → Knows (each_of ss) s.0 s.1
+each_knows [] zero s h = absurd (none-some s h)
+each_knows [] (suc k) s h = absurd (none-some s h)
+each_knows (x ∷ ss) zero s h = subst (λ (y : ℕ × ℕ). Knows (join (only x.0 x.1) (each_of ss)) y.0 y.1) (ap (λ (o : Option (ℕ × ℕ)). unwrap_or o x) h) (join_left (only x.0 x.1) (each_of ss) x.0 x.1 (only_knows x.0 x.1))
+each_knows (x ∷ ss) (suc k) s h = join_right (only x.0 x.1) (each_of ss) s.0 s.1 (each_knows ss k s h)
+
+known_knows : (b : Batch) (es : List Seen) (t v k : ℕ) (e : Seen) → slice_get es k ≡ Some e → is_known b e.batch ≡ true → Knows e.clock t v → Knows (known b es) t v
+known_knows b [] t v zero e h is knows = absurd (none-some e h)
+known_knows b [] t v (suc k) e h is knows = absurd (none-some e h)
+known_knows b (x ∷ es) t v zero e h is knows =
+    let same : x ≡ e = ap (λ (o : Option Seen). unwrap_or o x) h in
+    join_left (cond (is_known b x.batch) x.clock []) (known b es) t v
+    (subst (λ (y : Seen). Knows (cond (is_known b y.batch) y.clock []) t v) (sym same) (subst (λ u. Knows (cond u e.clock []) t v) (sym is) knows))
+known_knows b (x ∷ es) t v (suc k) e h is knows = join_right (cond (is_known b x.batch) x.clock []) (known b es) t v (known_knows b es t v k e h is knows)
+
+pub seen_keeps : (es : List Seen) (b : Batch) → KeepsKnown es b
+seen_keeps es b = record {
+  sets = λ k s h. join_left (each_of b.sets) (join (each_of b.waits) (known b es)) s.0 s.1 (each_knows b.sets k s h);
+  waits = λ k w h. join_right (each_of b.sets) (join (each_of b.waits) (known b es)) w.0 w.1 (join_left (each_of b.waits) (known b es) w.0 w.1 (each_knows b.waits k w h));
+  earlier = λ t v is. join_right (each_of b.sets) (join (each_of b.waits) (known b es)) t v (join_right (each_of b.waits) (known b es) t v (known_knows b es t v is.place is.earlier is.there is.is is.knows));
+}
 
 -- one more batch
 pub seen_goes_on : (es : List Seen) (bs : List Batch) (b : Batch) → seens es (bs ++ b ∷ []) ≡ seens es bs ++ seen (seens es bs) b ∷ []

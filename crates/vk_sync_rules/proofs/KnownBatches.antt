@@ -14,7 +14,7 @@ use Rattle.vk_sync_rules.specs.DoneAccesses.{covers, is_covered, is_ended}
 use Rattle.vk_sync_rules.specs.Entries.{Enters, IsMadeBy}
 use Rattle.vk_sync_rules.specs.Knowledge.{AllObey, Doing, IsAfter, IsAmong, IsKnown, IsUpToDate, Knows, Obeys, Seen, seen, seens, sets_for}
 use Rattle.vk_sync_rules.specs.Makers.{AreOwned, HasOwner}
-use Rattle.vk_sync_rules.specs.Timelines.{AreTimed, IsEntered, IsOfBatch, doing_of}
+use Rattle.vk_sync_rules.specs.Timelines.{AreTimed, IsEntered, IsOfBatch, WaitersEntered, doing_of}
 use Rattle.vk_sync_rules.specs.VkState.{VkState, batch_in, counter_of, counts_of}
 use Rattle.vk_sync_rules.proofs.Entries.{earlier_enter, entered_end, entered_stay, waits_enter}
 use Rattle.vk_sync_rules.proofs.Knowledge.{all_up_to_date, any_at, seen_splits}
@@ -136,6 +136,19 @@ module _ (owner : ℕ → ℕ) (v : VkState) (first : Batch) (t value : ℕ) (r 
       let reach : IsReached b.queue b.number b.waits r = each_got (IsReached b.queue b.number b.waits) v.accesses of.index r (are.reach b.queue b.number b there passed) of.access in
       waits_enter b.queue b.number b.waits r reach (end.signal b.waits ended cover)
 
+  -- it enters a batch that waits for the value or a higher one
+  by_waiter : (b : Batch) → batch_in b.queue b.number v.journal ≡ Some b → b.number < (counts_of v b.queue).passed → (i : ℕ) (w : ℕ × ℕ) → slice_get b.waits i ≡ Some w → w.0 ≡ t → value ≤ w.1 → Enters b.queue b.number r
+  by_waiter b there passed i w found timeline high =
+      let reach : w.1 ≤ counter_of v w.0 = wait_reached owner v are is b there passed i w found in
+      let at : value ≤ counter_of v t = (let same : counter_of v w.0 ≡ counter_of v t = ap (counter_of v) timeline in omega (arith, reach, high, same)) in
+      let here : ((t == w.0) && nat_le value w.1) ≡ true = grind (arith, timeline, high) in
+      let cover : is_covered b.waits first.sets ≡ true = got_any (covers b.waits) first.sets of.pair (t, value) of.sets
+      (got_any (λ (x : ℕ × ℕ). (t == x.0) && nat_le value x.1) b.waits i w found here) in
+      by_wait b first there passed there_first (set_ended owner v are is of.place first of.there of.pair (t, value) of.sets at) ended_first cover
+
+  pub waiters_enter : WaitersEntered v t value r
+  waiters_enter k b i w found passed at timeline high = by_waiter b (is.there k b found) passed i w at timeline high
+
   -- a batch that sets the value or a higher one is the first one, or a later one of its queue
   by_own : (k : ℕ) (b : Batch) → slice_get v.journal k ≡ Some b → IsAmong t value b.sets → (b ≡ first) ⊎ ((b.queue ≡ first.queue) × (first.number < b.number))
   by_own k b h among =
@@ -158,13 +171,7 @@ module _ (owner : ℕ → ℕ) (v : VkState) (first : Batch) (t value : ℕ) (r 
       | inr later ↦ inr (subst (λ q. Enters q b.number r) (sym later.0) (enters_first b.number later.1))
     ]
     | inr rest ↦ elim rest [
-      | inl waited ↦
-          let reach : waited.pair.1 ≤ counter_of v waited.pair.0 = wait_reached owner v are is b there passed waited.place waited.pair waited.there in
-          let at : value ≤ counter_of v t = (let a = waited.value in let same : counter_of v waited.pair.0 ≡ counter_of v t = ap (counter_of v) waited.timeline in omega (arith, reach, a, same)) in
-          let here : ((t == waited.pair.0) && nat_le value waited.pair.1) ≡ true = (let a = waited.timeline in let c = waited.value in grind (arith, a, c)) in
-          let cover : is_covered b.waits first.sets ≡ true = got_any (covers b.waits) first.sets of.pair (t, value) of.sets
-          (got_any (λ (w : ℕ × ℕ). (t == w.0) && nat_le value w.1) b.waits waited.place waited.pair waited.there here) in
-          inr (by_wait b first there passed there_first (set_ended owner v are is of.place first of.there of.pair (t, value) of.sets at) ended_first cover)
+      | inl waited ↦ inr (by_waiter b there passed waited.place waited.pair waited.there waited.timeline waited.value)
       | inr known ↦ elim (or_cases (known.earlier.batch.queue == b.queue) (sets_for b.waits known.earlier.batch) known.is) [
         | inl same ↦ by_queue known (eqb-true known.earlier.batch.queue b.queue same)
         | inr sets ↦ by_sets known sets

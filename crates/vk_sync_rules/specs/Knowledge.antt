@@ -72,10 +72,20 @@ pub record IsKnown (t v : ℕ) (b : Batch) (es : List Seen) : Type 0 where
   pub is : is_known b earlier.batch ≡ true
   pub knows : Knows earlier.clock t v
 
--- laws
+-- a batch knows what it sets and waits for, and what the earlier batches know that it knows
+pub record KeepsKnown (es : List Seen) (b : Batch) : Type 0 where
+  pub sets : (k : ℕ) (s : ℕ × ℕ) → slice_get b.sets k ≡ Some s → Knows (seen es b).clock s.0 s.1
+  pub waits : (k : ℕ) (w : ℕ × ℕ) → slice_get b.waits k ≡ Some w → Knows (seen es b).clock w.0 w.1
+  pub earlier : (t v : ℕ) → IsKnown t v b es → Knows (seen es b).clock t v
+
+abbrev pub SeenKeeps : Type 0
+SeenKeeps = (es : List Seen) (b : Batch) → KeepsKnown es b
+
+-- and it knows nothing else
 abbrev pub SeenSplits : Type 0
 SeenSplits = (es : List Seen) (b : Batch) (t v : ℕ) → 0 < v → Knows (seen es b).clock t v → IsAmong t v b.sets ⊎ (IsAmong t v b.waits ⊎ IsKnown t v b es)
 
+-- what batches know stays, where one more is submitted
 abbrev pub SeenGoesOn : Type 0
 SeenGoesOn = (es : List Seen) (bs : List Batch) (b : Batch) → seens es (bs ++ b ∷ []) ≡ seens es bs ++ seen (seens es bs) b ∷ []
 

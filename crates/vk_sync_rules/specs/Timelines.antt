@@ -99,3 +99,12 @@ pub record IsOfBatch (v : VkState) (first : Batch) (t value : ℕ) (r : DoneAcce
 
 abbrev pub KnownEnter : Type 0
 KnownEnter = (owner : ℕ → ℕ) (v : VkState) (first : Batch) (t value : ℕ) (r : DoneAccess) → ArePassed v → AreTimed owner v → AreOwned v → IsOfBatch v first t value r → Each (IsEntered v first t value r) (seens [] v.journal)
+
+-- an access of a batch enters each batch that has passed and waited for a value that its own sets, or a higher one: so the layout
+-- changes of a start-up batch enter all that wait for it
+abbrev pub WaitersEntered : VkState → ℕ → ℕ → DoneAccess → Type 0
+WaitersEntered v t value r =
+    (k : ℕ) (b : Batch) (i : ℕ) (w : ℕ × ℕ) → slice_get v.journal k ≡ Some b → b.number < (counts_of v b.queue).passed → slice_get b.waits i ≡ Some w → w.0 ≡ t → value ≤ w.1 → Enters b.queue b.number r
+
+abbrev pub WaitersEnter : Type 0
+WaitersEnter = (owner : ℕ → ℕ) (v : VkState) (first : Batch) (t value : ℕ) (r : DoneAccess) → ArePassed v → AreTimed owner v → AreOwned v → IsOfBatch v first t value r → WaitersEntered v t value r

@@ -6,13 +6,13 @@ ghost use Rattle.vk_sync_rules.specs.Entries.{EarlierEnter, EnteredAreCovered, E
 ghost use Rattle.vk_sync_rules.specs.FirstState.{DevicesBegin, FirstBegins};
 ghost use Rattle.vk_sync_rules.specs.Growth.{GainsAddScopes, NothingShrinks};
 ghost use Rattle.vk_sync_rules.specs.HostAccesses.{HostReadsSee, SubmissionsHost};
-ghost use Rattle.vk_sync_rules.specs.Knowledge.{SeenGoesOn, SeenSplits};
+ghost use Rattle.vk_sync_rules.specs.Knowledge.{SeenGoesOn, SeenKeeps, SeenSplits};
 ghost use Rattle.vk_sync_rules.specs.LastWrites.{LastWritesAreLast};
 ghost use Rattle.vk_sync_rules.specs.Makers.{StaysOwned};
 ghost use Rattle.vk_sync_rules.specs.NumberRows.{NumberRows, StepRows};
 ghost use Rattle.vk_sync_rules.specs.RuleRows.{CommandRows, HostRows, LayoutRows, OrderRows, SubmitRows, WaitRows};
 ghost use Rattle.vk_sync_rules.specs.Soundness.{StaysSound};
-ghost use Rattle.vk_sync_rules.specs.Timelines.{FirstIsTimed, KnownEnter, KnownIsDone, StaysTimed};
+ghost use Rattle.vk_sync_rules.specs.Timelines.{FirstIsTimed, KnownEnter, KnownIsDone, StaysTimed, WaitersEnter};
 
 /// The worked rows of the rules, of the numbers that commands leave, and of the steps that can be taken.
 pub fn rows_compute()
@@ -108,10 +108,11 @@ pub fn first_states_begin()
     ensures device { DevicesBegin }
 {}
 
-/// What a batch knows, it sets or waits for, or an earlier batch that it knows knows it.
-#[tactic(auto, using(crate::proofs::Knowledge::seen_splits))]
-pub fn knowledge_splits()
-    ensures { SeenSplits }
+/// A batch knows what it sets and waits for and what the earlier batches know that it knows, and nothing else.
+#[tactic(auto, using(crate::proofs::Knowledge::seen_keeps, crate::proofs::Knowledge::seen_splits))]
+pub fn batches_know()
+    ensures keeps { SeenKeeps }
+    ensures splits { SeenSplits }
 {}
 
 /// What batches know stays, where one more is submitted.
@@ -150,8 +151,9 @@ pub fn known_batches_are_done()
     ensures { KnownIsDone }
 {}
 
-/// The accesses of a batch enter each batch that has passed and knows a value that it sets.
-#[tactic(auto, using(crate::proofs::KnownBatches::known_enter))]
+/// The accesses of a batch enter each batch that has passed and knows a value that it sets, as those do that wait for it.
+#[tactic(auto, using(crate::proofs::KnownBatches::known_enter, crate::proofs::KnownBatches::waiters_enter))]
 pub fn known_accesses_enter()
-    ensures { KnownEnter }
+    ensures known { KnownEnter }
+    ensures waiters { WaitersEnter }
 {}

@@ -12,9 +12,9 @@ mod rules;
 pub use accesses::{DoneAccess, Gain, Maker};
 pub use counts::{Counts, Done};
 pub use laws::{
-    accesses_stay_behind_barriers, accesses_stay_owned, batches_stay_ended, batches_stay_passed,
-    earlier_accesses_enter, entered_accesses_come_before, first_states_begin, full_barriers_clear,
-    gains_add_scopes, host_barriers_show, host_reads_see, knowledge_goes_on, knowledge_splits,
+    accesses_stay_behind_barriers, accesses_stay_owned, batches_know, batches_stay_ended,
+    batches_stay_passed, earlier_accesses_enter, entered_accesses_come_before, first_states_begin,
+    full_barriers_clear, gains_add_scopes, host_barriers_show, host_reads_see, knowledge_goes_on,
     known_accesses_enter, known_batches_are_done, last_writes_are_last, nothing_shrinks,
     rows_compute, runs_stay_sound, submissions_order_the_host, values_rise,
 };
