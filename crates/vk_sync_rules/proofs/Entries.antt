@@ -1,6 +1,6 @@
 -- What enters a batch, and that it comes before the batch's commands.
-use Rattle.std.proofs.Common.{◌≡◌, ℕ, ◌<◌, ◌==◌, ◌∙◌, nat_le, Bool, true, false, ◌&&◌, ◌||◌, ◌⊎◌, inl, inr, List, [], ◌∷◌, ◌++◌, map, slice_get, refl, sym, ap, subst, arith, Option, Some, None, eq-eqb}
-use Rattle.std.specs.List.{list_any, flat_map}
+use Rattle.std.proofs.Common.{◌≡◌, ℕ, ◌<◌, ◌==◌, ◌∙◌, Bool, true, false, ◌&&◌, ◌||◌, ◌⊎◌, inl, inr, List, [], ◌∷◌, ◌++◌, map, slice_get, refl, sym, ap, subst, arith, Option, Some, None, eq-eqb}
+use Rattle.std.specs.List.{flat_map}
 use Rattle.std.specs.Prelude.{cond}
 use Rattle.std.proofs.lemmas.Bool.{and_parts, and_from, or_cases, or_right, or_left, false≢true}
 use Rattle.dx_base.specs.Each.{Each}
@@ -18,7 +18,6 @@ use Rattle.vk_types.specs.Stages.{meets}
 use Rattle.routines.specs.declared.uses.Extent.{Extent}
 use Rattle.routines.specs.Uses.{uses_of, words_used}
 use Rattle.vk_sync_rules.specs.declared.accesses.DoneAccess.{DoneAccess}
-use Rattle.vk_sync_rules.specs.declared.accesses.Gain.{Gain}
 use Rattle.vk_sync_rules.specs.declared.accesses.Maker.{Maker}
 use Rattle.vk_sync_rules.specs.declared.places.Place.{Place}
 use Rattle.vk_sync_rules.specs.declared.ranges.WordRange.{WordRange}
@@ -28,18 +27,18 @@ use Rattle.vk_sync_rules.specs.BatchEnds.{IsReached}
 use Rattle.vk_sync_rules.specs.Commands.{pieces, pieces_of_registers}
 use Rattle.vk_sync_rules.specs.Copies.{CopiedRow, copied_rows, sides_of}
 use Rattle.vk_sync_rules.specs.Dispatches.{DispatchViews, is_word, most_of, piece_of, pieces_of_dispatch, views_of, word_of_count}
-use Rattle.vk_sync_rules.specs.DoneAccesses.{gives_order, is_covered, is_direct, is_ended, is_host, is_made_available, ordered, reaches, start_of}
+use Rattle.vk_sync_rules.specs.DoneAccesses.{is_covered, is_direct, is_ended, is_host, is_made_available, ordered, reaches, start_of}
 use Rattle.vk_sync_rules.specs.EnabledSteps.{is_enabled}
 use Rattle.vk_sync_rules.specs.Entries.{Enters, IsCovered, IsMadeBy, leading_of}
 use Rattle.vk_sync_rules.specs.HostAccesses.{IsHosted}
 use Rattle.vk_sync_rules.specs.Makers.{HasOwner, IsChanged, IsOfPiece, IsOwned}
 use Rattle.vk_sync_rules.specs.Orders.{orders, sort_of}
 use Rattle.vk_sync_rules.specs.Pieces.{Piece}
-use Rattle.vk_sync_rules.specs.Places.{is_before, is_by}
+use Rattle.vk_sync_rules.specs.Places.{is_before}
 use Rattle.vk_sync_rules.specs.Registers.{answer_of, slots_of}
 use Rattle.vk_sync_rules.specs.Soundness.{IsSound}
 use Rattle.vk_sync_rules.specs.VkState.{VkState, command_at, is_done}
-use Rattle.vk_sync_rules.proofs.Gains.{direct_of, ordered_later, reaches_later, sees_later, sees_reaches}
+use Rattle.vk_sync_rules.proofs.Gains.{direct_of, ordered_later, reaches_later, scope_ends, sees_later, sees_reaches}
 use Rattle.vk_sync_rules.proofs.Soundness.{enabled_command, free_gives, same_item}
 
 -- MEMORY_WRITE stands for each access by which a piece writes
@@ -197,29 +196,8 @@ entered_stay q n m r less is = record {
   before = grind (arith, less)
 
 -- what enters a batch ends with it
-direct_ends : (q n : ℕ) (o : Option Maker) → elim o [ None ↦ false | Some m ↦ (m.queue == q) && (meets m.stage all_stages && is_before m.place (leading_of n)) ] ≡ true →
-    elim o [ None ↦ false | Some m ↦ (m.queue == q) && nat_le m.place.number n ] ≡ true
-direct_ends q n None h = h
-direct_ends q n (Some m) h =
-    let one = and_parts (m.queue == q) (meets m.stage all_stages && is_before m.place (leading_of n)) h in
-    let two = (and_parts (meets m.stage all_stages) (is_before m.place (leading_of n)) one.1).1 in
-    and_from (m.queue == q) (nat_le m.place.number n) one.0 (grind (arith, two))
-
-ordered_ends : (q n : ℕ) (gs : List Gain) → list_any (gives_order q all_stages (leading_of n)) gs ≡ true → list_any (λ g. (g.queue == q) && nat_le g.place.number n) gs ≡ true
-ordered_ends q n [] h = h
-ordered_ends q n (g ∷ gs) h = elim (or_cases (gives_order q all_stages (leading_of n) g) (list_any (gives_order q all_stages (leading_of n)) gs) h) [
-  | inl here ↦
-      let one = and_parts (g.queue == q) (meets g.stages all_stages && is_by g.place (leading_of n)) here in
-      let two = (and_parts (meets g.stages all_stages) (is_by g.place (leading_of n)) one.1).1 in
-      or_left ((g.queue == q) && nat_le g.place.number n) (list_any (λ g. (g.queue == q) && nat_le g.place.number n) gs) (and_from (g.queue == q) (nat_le g.place.number n) one.0 (grind (arith, two)))
-  | inr there ↦ or_right ((g.queue == q) && nat_le g.place.number n) (list_any (λ g. (g.queue == q) && nat_le g.place.number n) gs) (ordered_ends q n gs there)
-]
-
 pub entered_end : (q n : ℕ) (r : DoneAccess) → Enters q n r → is_ended q n r ≡ true
-entered_end q n r is = elim (or_cases (is_direct q all_stages (leading_of n) r) (ordered q all_stages (leading_of n) r) is.scope) [
-  | inl direct ↦ or_left (elim r.by [ None ↦ false | Some m ↦ (m.queue == q) && nat_le m.place.number n ]) (list_any (λ g. (g.queue == q) && nat_le g.place.number n) r.gains) (direct_ends q n r.by direct)
-  | inr order ↦ or_right (elim r.by [ None ↦ false | Some m ↦ (m.queue == q) && nat_le m.place.number n ]) (list_any (λ g. (g.queue == q) && nat_le g.place.number n) r.gains) (ordered_ends q n r.gains order)
-]
+entered_end q n r is = scope_ends q all_stages (leading_of n) r is.scope
 
 -- a batch's commands that can run come behind its leading barrier
 leading_done : (v : VkState) (q n k : ℕ) (loaded : List ℕ) (c : VkCommand) → command_at v q (leading_of n) ≡ Some to_all → 1 < k →

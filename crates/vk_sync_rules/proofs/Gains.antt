@@ -1,5 +1,5 @@
 -- What is ordered and seen at a place is so at later ones.
-use Rattle.std.proofs.Common.{◌≡◌, ℕ, Bool, true, ◌&&◌, ◌==◌, List, [], ◌∷◌, inl, inr, arith, Some}
+use Rattle.std.proofs.Common.{◌≡◌, ℕ, nat_le, Bool, true, false, ◌&&◌, ◌==◌, List, [], ◌∷◌, inl, inr, arith, Option, Some, None}
 use Rattle.std.specs.List.{list_any}
 use Rattle.std.proofs.lemmas.Bool.{and_parts, and_from, or_cases, or_right, or_left}
 use Rattle.vk_types.specs.declared.accesses.Accesses.{Accesses}
@@ -10,7 +10,7 @@ use Rattle.vk_sync_rules.specs.declared.accesses.Gain.{Gain}
 use Rattle.vk_sync_rules.specs.declared.accesses.Maker.{Maker}
 use Rattle.vk_sync_rules.specs.declared.places.Place.{Place}
 use Rattle.vk_sync_rules.specs.AccessSets.{share}
-use Rattle.vk_sync_rules.specs.DoneAccesses.{gives_order, is_direct, ordered, reaches, sees}
+use Rattle.vk_sync_rules.specs.DoneAccesses.{gives_order, in_scope, is_direct, is_ended, ordered, reaches, sees}
 use Rattle.vk_sync_rules.specs.Places.{is_before, is_by}
 
 -- what is ordered and seen at a place is so at later ones
@@ -57,3 +57,28 @@ sees_reaches q stages accesses p r h =
 -- made before a place
 pub direct_of : (q : ℕ) (from : Stages) (p : Place) (r : DoneAccess) (m : Maker) → r.by ≡ Some m → ((m.queue == q) && (meets m.stage from && is_before m.place p)) ≡ true → is_direct q from p r ≡ true
 direct_of q from p r m e h = rw e h
+
+-- what is in the first scope of a barrier ends with the barrier's batch
+direct_ends : (q : ℕ) (from : Stages) (p : Place) (o : Option Maker) → elim o [ None ↦ false | Some m ↦ (m.queue == q) && (meets m.stage from && is_before m.place p) ] ≡ true →
+    elim o [ None ↦ false | Some m ↦ (m.queue == q) && nat_le m.place.number p.number ] ≡ true
+direct_ends q from p None h = h
+direct_ends q from p (Some m) h =
+    let one = and_parts (m.queue == q) (meets m.stage from && is_before m.place p) h in
+    let two = (and_parts (meets m.stage from) (is_before m.place p) one.1).1 in
+    and_from (m.queue == q) (nat_le m.place.number p.number) one.0 (grind (arith, two))
+
+ordered_ends : (q : ℕ) (from : Stages) (p : Place) (gs : List Gain) → list_any (gives_order q from p) gs ≡ true → list_any (λ g. (g.queue == q) && nat_le g.place.number p.number) gs ≡ true
+ordered_ends q from p [] h = h
+ordered_ends q from p (g ∷ gs) h = elim (or_cases (gives_order q from p g) (list_any (gives_order q from p) gs) h) [
+  | inl here ↦
+      let one = and_parts (g.queue == q) (meets g.stages from && is_by g.place p) here in
+      let two = (and_parts (meets g.stages from) (is_by g.place p) one.1).1 in
+      or_left ((g.queue == q) && nat_le g.place.number p.number) (list_any (λ g. (g.queue == q) && nat_le g.place.number p.number) gs) (and_from (g.queue == q) (nat_le g.place.number p.number) one.0 (grind (arith, two)))
+  | inr there ↦ or_right ((g.queue == q) && nat_le g.place.number p.number) (list_any (λ g. (g.queue == q) && nat_le g.place.number p.number) gs) (ordered_ends q from p gs there)
+]
+
+pub scope_ends : (q : ℕ) (from : Stages) (p : Place) (r : DoneAccess) → in_scope q from p r ≡ true → is_ended q p.number r ≡ true
+scope_ends q from p r h = elim (or_cases (is_direct q from p r) (ordered q from p r) h) [
+  | inl direct ↦ or_left (elim r.by [ None ↦ false | Some m ↦ (m.queue == q) && nat_le m.place.number p.number ]) (list_any (λ g. (g.queue == q) && nat_le g.place.number p.number) r.gains) (direct_ends q from p r.by direct)
+  | inr order ↦ or_right (elim r.by [ None ↦ false | Some m ↦ (m.queue == q) && nat_le m.place.number p.number ]) (list_any (λ g. (g.queue == q) && nat_le g.place.number p.number) r.gains) (ordered_ends q from p r.gains order)
+]

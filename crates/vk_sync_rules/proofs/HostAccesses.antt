@@ -1,53 +1,23 @@
 -- Behind the end of a batch the host sees what was written before its barrier to the host.
-use Rattle.std.proofs.Common.{◌≡◌, ℕ, zero, suc, ◌+◌, ◌<◌, ◌≤◌, ◌==◌, ◌∙◌, nat_le, Bool, true, false, ◌&&◌, ◌||◌, inl, inr, List, [], ◌∷◌, length, slice_get, refl, sym, ap, subst, arith, Option, Some, None}
+use Rattle.std.proofs.Common.{◌≡◌, ℕ, zero, suc, ◌+◌, ◌<◌, ◌≤◌, ◌==◌, Bool, true, false, ◌||◌, List, [], ◌∷◌, length, slice_get, refl, subst, arith, Some}
 use Rattle.std.specs.List.{list_any}
-use Rattle.std.proofs.lemmas.Bool.{and_parts, and_from, or_cases, or_right, or_left, false≢true}
-use Rattle.dx_base.specs.Each.{Each}
+use Rattle.std.proofs.lemmas.Bool.{or_right, or_left, false≢true}
 use Rattle.dx_base.proofs.Each.{each_got}
-use Rattle.vk_types.specs.declared.stages.Stages.{Stages}
-use Rattle.vk_types.specs.Stages.{meets}
 use Rattle.vk_sync_rules.specs.declared.accesses.DoneAccess.{DoneAccess}
-use Rattle.vk_sync_rules.specs.declared.accesses.Gain.{Gain}
-use Rattle.vk_sync_rules.specs.declared.accesses.Maker.{Maker}
 use Rattle.vk_sync_rules.specs.declared.places.Place.{Place}
 use Rattle.vk_sync_rules.specs.AccessSets.{all_stages, every_write, host_reads, host_stage}
 use Rattle.vk_sync_rules.specs.Barriers.{AreBehind, IsShown, is_ready, to_host}
 use Rattle.vk_sync_rules.specs.BatchEnds.{AreEnded, ArePassed, IsEnded}
-use Rattle.vk_sync_rules.specs.DoneAccesses.{covers, gives_order, in_scope, is_covered, is_direct, is_ended, is_host, ordered, sees, start_of}
+use Rattle.vk_sync_rules.specs.DoneAccesses.{covers, in_scope, is_covered, is_host, sees, start_of}
 use Rattle.vk_sync_rules.specs.HostAccesses.{HasShown, HostSees}
 use Rattle.vk_sync_rules.specs.Numbers.{up_to}
-use Rattle.vk_sync_rules.specs.Places.{is_before, is_by}
+use Rattle.vk_sync_rules.specs.Places.{is_before}
 use Rattle.vk_sync_rules.specs.Rules.{is_host_ordered, is_host_seen}
-use Rattle.vk_sync_rules.specs.VkState.{Placed, VkState, batch_in, command_in, counts_of, is_done, nth_command}
+use Rattle.vk_sync_rules.specs.VkState.{Placed, VkState, command_in, counts_of, is_done}
 use Rattle.vk_sync_rules.proofs.FirstState.{barriers_show}
-use Rattle.vk_sync_rules.proofs.Gains.{sees_later}
+use Rattle.vk_sync_rules.proofs.Gains.{scope_ends, sees_later}
 use Rattle.vk_sync_rules.proofs.KnownBatches.{got_any}
 use Rattle.vk_sync_rules.proofs.Soundness.{nth_got}
-
--- what is in the first scope of a barrier ends with the barrier's batch
-direct_ends : (q : ℕ) (from : Stages) (p : Place) (o : Option Maker) → elim o [ None ↦ false | Some m ↦ (m.queue == q) && (meets m.stage from && is_before m.place p) ] ≡ true →
-    elim o [ None ↦ false | Some m ↦ (m.queue == q) && nat_le m.place.number p.number ] ≡ true
-direct_ends q from p None h = h
-direct_ends q from p (Some m) h =
-    let one = and_parts (m.queue == q) (meets m.stage from && is_before m.place p) h in
-    let two = (and_parts (meets m.stage from) (is_before m.place p) one.1).1 in
-    and_from (m.queue == q) (nat_le m.place.number p.number) one.0 (grind (arith, two))
-
-ordered_ends : (q : ℕ) (from : Stages) (p : Place) (gs : List Gain) → list_any (gives_order q from p) gs ≡ true → list_any (λ g. (g.queue == q) && nat_le g.place.number p.number) gs ≡ true
-ordered_ends q from p [] h = h
-ordered_ends q from p (g ∷ gs) h = elim (or_cases (gives_order q from p g) (list_any (gives_order q from p) gs) h) [
-  | inl here ↦
-      let one = and_parts (g.queue == q) (meets g.stages from && is_by g.place p) here in
-      let two = (and_parts (meets g.stages from) (is_by g.place p) one.1).1 in
-      or_left ((g.queue == q) && nat_le g.place.number p.number) (list_any (λ g. (g.queue == q) && nat_le g.place.number p.number) gs) (and_from (g.queue == q) (nat_le g.place.number p.number) one.0 (grind (arith, two)))
-  | inr there ↦ or_right ((g.queue == q) && nat_le g.place.number p.number) (list_any (λ g. (g.queue == q) && nat_le g.place.number p.number) gs) (ordered_ends q from p gs there)
-]
-
-pub scope_ends : (q : ℕ) (from : Stages) (p : Place) (r : DoneAccess) → in_scope q from p r ≡ true → is_ended q p.number r ≡ true
-scope_ends q from p r h = elim (or_cases (is_direct q from p r) (ordered q from p r) h) [
-  | inl direct ↦ or_left (elim r.by [ None ↦ false | Some m ↦ (m.queue == q) && nat_le m.place.number p.number ]) (list_any (λ g. (g.queue == q) && nat_le g.place.number p.number) r.gains) (direct_ends q from p r.by direct)
-  | inr order ↦ or_right (elim r.by [ None ↦ false | Some m ↦ (m.queue == q) && nat_le m.place.number p.number ]) (list_any (λ g. (g.queue == q) && nat_le g.place.number p.number) r.gains) (ordered_ends q from p r.gains order)
-]
 
 -- one of some numbers
 any_up_to : (f : ℕ → Bool) (first count k : ℕ) → first ≤ k → k < first + count → f k ≡ true → list_any f (up_to first count) ≡ true

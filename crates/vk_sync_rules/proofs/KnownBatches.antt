@@ -1,7 +1,7 @@
 -- What batches know by their waits alone is done, and its accesses enter them.
-use Rattle.std.proofs.Common.{◌≡◌, ℕ, zero, suc, ◌+◌, ◌<◌, ◌≤◌, ◌==◌, ◌∙◌, nat_le, nat_lt, Bool, true, false, ◌&&◌, ◌⊎◌, inl, inr, List, [], ◌∷◌, ◌++◌, length, slice_get, refl, sym, ap, subst, arith, Option, Some, None, append_assoc}
-use Rattle.std.specs.List.{list_any, list_all}
-use Rattle.std.proofs.lemmas.Bool.{and_parts, and_from, cases_Bool, or_cases, or_right, or_left, false≢true, eqb-true, leb-true}
+use Rattle.std.proofs.Common.{◌≡◌, ℕ, zero, suc, ◌<◌, ◌≤◌, ◌==◌, ◌∙◌, nat_le, nat_lt, Bool, true, false, ◌&&◌, ◌⊎◌, inl, inr, List, [], ◌∷◌, ◌++◌, length, slice_get, refl, sym, ap, subst, arith, Option, Some, None, append_assoc}
+use Rattle.std.specs.List.{list_any}
+use Rattle.std.proofs.lemmas.Bool.{and_parts, cases_Bool, or_cases, or_right, or_left, eqb-true, leb-true}
 use Rattle.std.proofs.lemmas.Option.{none-some}
 use Rattle.dx_base.specs.Each.{Each}
 use Rattle.dx_base.proofs.Each.{each_append, each_from, each_got}
@@ -11,8 +11,8 @@ use Rattle.vk_sync_rules.specs.declared.accesses.Gain.{Gain}
 use Rattle.vk_sync_rules.specs.declared.accesses.Maker.{Maker}
 use Rattle.vk_sync_rules.specs.BatchEnds.{ArePassed, IsEnded, IsReached}
 use Rattle.vk_sync_rules.specs.DoneAccesses.{covers, is_covered, is_ended}
-use Rattle.vk_sync_rules.specs.Entries.{Enters, IsMadeBy}
-use Rattle.vk_sync_rules.specs.Knowledge.{AllObey, Doing, IsAfter, IsAmong, IsKnown, IsUpToDate, Knows, Obeys, Seen, seen, seens, sets_for}
+use Rattle.vk_sync_rules.specs.Entries.{Enters}
+use Rattle.vk_sync_rules.specs.Knowledge.{AllObey, IsAfter, IsAmong, IsKnown, IsUpToDate, Obeys, Seen, seen, seens, sets_for}
 use Rattle.vk_sync_rules.specs.Makers.{AreOwned, HasOwner}
 use Rattle.vk_sync_rules.specs.Timelines.{AreTimed, IsEntered, IsOfBatch, WaitersEntered, doing_of}
 use Rattle.vk_sync_rules.specs.VkState.{VkState, batch_in, counter_of, counts_of}

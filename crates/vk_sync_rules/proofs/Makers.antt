@@ -11,7 +11,7 @@ use Rattle.vk_types.specs.declared.stages.Stages.{Stages}
 use Rattle.vk_types.specs.declared.steps.VkStep.{VkStep}
 use Rattle.vk_types.specs.declared.steps.VkStep.TheVariants.{Submit, Pass, Command, Bump, HostWrite, HostRead, Update}
 use Rattle.vk_types.specs.Stages.{meets}
-use Rattle.vk_sync_rules.proofs.Barriers.{IsIn, by_self, new_host, new_made}
+use Rattle.vk_sync_rules.proofs.Barriers.{IsIn, by_self, fresh_access, new_host, new_made}
 use Rattle.vk_sync_rules.proofs.Growth.{grows_where, grows_command, grows_bump}
 use Rattle.vk_sync_rules.proofs.Soundness.{enabled_command, same_item, still_in}
 use Rattle.vk_sync_rules.specs.AccessSets.{share}
@@ -29,7 +29,6 @@ use Rattle.vk_sync_rules.specs.declared.accesses.DoneAccess.{DoneAccess}
 use Rattle.vk_sync_rules.specs.declared.accesses.Maker.{Maker}
 use Rattle.vk_sync_rules.specs.declared.counts.Done.{Done}
 use Rattle.vk_sync_rules.specs.declared.places.Place.{Place}
-use Rattle.vk_sync_rules.specs.declared.ranges.WordRange.{WordRange}
 use Rattle.dx_base.specs.Each.{Each}
 use Rattle.dx_base.proofs.Each.{each_map, each_append}
 use Rattle.vk_sync_rules.specs.Makers.{AreOwned, IsOfPiece}
@@ -38,6 +37,8 @@ use Rattle.vk_sync_rules.specs.Pieces.{Piece}
 use Rattle.vk_sync_rules.specs.AccessSets.{is_some_access}
 use Rattle.vk_types.specs.declared.plan.DevicePlan.{DevicePlan}
 use Rattle.std.specs.Prelude.{cond}
+use Rattle.vk_sync_rules.specs.AccessSets.{no_stages}
+use Rattle.vk_sync_rules.specs.NextState.{maker_of}
 
 -- an access that has grown keeps its piece
 piece_on : (ps : List Piece) (r s : DoneAccess) → Grows r s → IsOfPiece ps r → IsOfPiece ps s
@@ -136,7 +137,7 @@ module _ (v : VkState) (all : AreOwned v) where
       (new_made H v q p loaded c
       (λ work range writes access is. record {
         host = λ e w. absurd (none-some maker (sym e));
-        own = λ m e. let same : maker ≡ m = same_item maker m e in subst (λ x. IsOwned v.plan done v.journal x (fresh range writes access)) same (record {
+        own = λ m e. let same : maker ≡ m = same_item maker m e in subst (λ x. IsOwned v.plan done v.journal x (fresh_access q p c range writes access)) same (record {
           is = is_here;
           command = c;
           there = has;
@@ -170,13 +171,10 @@ module _ (v : VkState) (all : AreOwned v) where
       H = HasOwner v.plan done v.journal
 
       maker : Maker
-      maker = record { queue = q; place = p; stage = (sort_of c).gives }
+      maker = maker_of q p c
 
       changer : Maker
-      changer = record { queue = q; place = p; stage = record { 0 = 0 } }
-
-      fresh : WordRange → Bool → Accesses → DoneAccess
-      fresh range writes access = record { range = range; writes = writes; access = access; by = Some maker; gains = []; signals = []; available = false }
+      changer = record { queue = q; place = p; stage = no_stages }
 
       is_here : is_done done q p ≡ true
       is_here = or_left (is_same q p here) (is_done v.done q p) (grind arith)

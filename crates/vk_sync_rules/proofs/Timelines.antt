@@ -1,8 +1,8 @@
 -- The values of timelines along an orderly run.
-use Rattle.std.specs.Prelude.{nat_lt, nat_le, slice_index_or}
+use Rattle.std.specs.Prelude.{nat_lt}
 use Rattle.std.proofs.Common.{◌≡◌, ℕ, zero, suc, ◌+◌, ◌<◌, ◌≤◌, ◌==◌, ◌∙◌, Bool, true, false, not, ◌&&◌, ◌||◌, cond, ◌⊎◌, inl, inr, List, [], ◌∷◌, ◌++◌, length, get_or, set, slice_get, refl, sym, ap, subst, arith, Option, Some, None}
 use Rattle.std.specs.List.{list_all, flat_map}
-use Rattle.std.proofs.lemmas.Bool.{and_parts, and_from, or_cases, cases_Bool, eqb-true, false≢true, leb-true}
+use Rattle.std.proofs.lemmas.Bool.{and_parts, and_from, cases_Bool, eqb-true, false≢true}
 use Rattle.std.proofs.lemmas.Option.{none-some}
 use Rattle.vk_types.specs.declared.batches.Batch.{Batch}
 use Rattle.vk_types.specs.declared.commands.VkCommand.{VkCommand}
@@ -14,12 +14,12 @@ use Rattle.vk_sync_rules.specs.BatchEnds.{ArePassed}
 use Rattle.vk_sync_rules.specs.EnabledSteps.{all_done, is_enabled}
 use Rattle.vk_sync_rules.specs.FirstState.{IsFirst}
 use Rattle.vk_sync_rules.specs.NextState.{after_run, after_sets, moved, sets_in}
-use Rattle.vk_sync_rules.specs.Rules.{after_step, after_steps, is_new, pending_sets}
-use Rattle.vk_sync_rules.specs.Runs.{Fits, Runs, are_new}
+use Rattle.vk_sync_rules.specs.Rules.{after_step, is_new, pending_sets}
+use Rattle.vk_sync_rules.specs.Runs.{Fits, are_new}
 use Rattle.vk_sync_rules.specs.Timelines.{AreOrderly, AreTimed, IsOrderly, RunsOrderly, SetsOwn, Timed}
 use Rattle.vk_sync_rules.specs.VkState.{VkState, batch_in, command_at, counter_of, counts_of, no_counts, placed_from}
 use Rattle.vk_sync_rules.proofs.BatchEnds.{enabled_end, passed_step, rise, set_cases}
-use Rattle.vk_sync_rules.proofs.Soundness.{all_left, all_right, batch_cases, batch_more, changed_cases, got_changed, kept_field, same_item}
+use Rattle.vk_sync_rules.proofs.Soundness.{all_left, all_right, batch_more, changed_cases, got_changed, kept_field, same_item}
 
 -- items of lists
 pub got_more : {A : Type 0} (xs : List A) (y : A) (k : ℕ) (x : A) → slice_get (xs ++ y ∷ []) k ≡ Some x → (slice_get xs k ≡ Some x) ⊎ ((k ≡ length xs) × (y ≡ x))

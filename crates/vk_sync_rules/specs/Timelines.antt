@@ -1,5 +1,5 @@
 -- The values of timelines along a run whose submissions keep V4 and V9, where each timeline is set by one queue.
-use Rattle.std.specs.Prelude.{ℕ, ◌≡◌, ◌<◌, ◌≤◌, ◌⊎◌, Bool, true, List, [], ◌∷◌, length, slice_get, Some}
+use Rattle.std.specs.Prelude.{ℕ, ◌≡◌, ◌<◌, ◌≤◌, ◌⊎◌, true, List, [], ◌∷◌, length, slice_get, Some}
 use Rattle.std.specs.List.{list_all}
 use Rattle.dx_base.specs.Each.{Each}
 use Rattle.vk_types.specs.declared.batches.Batch.{Batch}
