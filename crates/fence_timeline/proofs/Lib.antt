@@ -1,0 +1,4 @@
+pub mod Between
+pub mod Greatest
+pub mod Peaks
+pub mod Searching

@@ -1,0 +1,2 @@
+pub mod Sufficient
+pub mod Runs

@@ -1,0 +1,8 @@
+//! Fences as lists of updates: those that were applied, and those that are still pending on queues.
+#![tactic(auto)]
+
+mod runs;
+mod update;
+mod updates;
+
+pub use update::{Target, Update};
