@@ -2,3 +2,4 @@ pub mod Between
 pub mod Greatest
 pub mod Peaks
 pub mod Searching
+pub mod WaitList

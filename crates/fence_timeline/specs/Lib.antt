@@ -1,2 +1,3 @@
 pub mod Sufficient
 pub mod Runs
+pub mod Waits

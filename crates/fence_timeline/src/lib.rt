@@ -4,5 +4,8 @@
 mod runs;
 mod update;
 mod updates;
+mod wait;
+mod waits;
 
 pub use update::{Target, Update};
+pub use wait::Wait;
