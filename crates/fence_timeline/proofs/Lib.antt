@@ -3,3 +3,7 @@ pub mod Greatest
 pub mod Peaks
 pub mod Searching
 pub mod WaitList
+pub mod PendingList
+pub mod OrderedWaits
+pub mod KeptFence
+pub mod FenceCalls

@@ -57,6 +57,13 @@ impl Updates {
         None
     }
 
+    /// The last update.
+    pub(crate) fn last(&self) -> Option<Update>
+        ensures { result ≡ slice_get self.now.items (length self.now.items - 1) }
+    {
+        self.get(self.entries.len().saturating_sub(1))
+    }
+
     /// The first update, from a place on, that suffices.
     pub(crate) fn first_from(&self, from: usize, value: u64) -> Option<Update>
         ensures { result ≡ first_sufficient value (drop from self.now.items) }
