@@ -84,3 +84,9 @@ let_go_keeps f base base2 e applied applied2 pending ws some room fits order num
       own = own;
       ends = ends;
     }
+
+-- the first update that suffices, of the applied ones from a place on and the pending ones
+pub first_in_both : (v from : ℕ) (us ps : List Update) → from ≤ length us →
+    first_sufficient v (drop from (us ++ ps)) ≡ option_or (first_sufficient v (drop from us)) (first_sufficient v ps)
+first_in_both v from us ps within =
+    ap (first_sufficient v) (drop-append-le from us ps within) ∙ first_append v (drop from us) ps
