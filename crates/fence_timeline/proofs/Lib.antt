@@ -7,3 +7,4 @@ pub mod PendingList
 pub mod OrderedWaits
 pub mod KeptFence
 pub mod FenceCalls
+pub mod FenceLaws

@@ -4,3 +4,4 @@ pub mod Waits
 pub mod FenceList
 pub mod Endings
 pub mod Fence
+pub mod Laws
