@@ -1,5 +1,5 @@
 -- What stands from one place of a list on and before another.
-use Rattle.std.proofs.Common.{ℕ, zero, suc, ◌≡◌, ◌≤◌, ◌<◌, ◌-◌, refl, ap, sym, List, [], ◌∷◌, ◌++◌, length, take, drop, slice_get, Some, arith}
+use Rattle.std.proofs.Common.{ℕ, zero, suc, ◌≡◌, ◌≤◌, refl, ap, List, [], ◌∷◌, ◌++◌, length, drop, slice_get, Some, arith}
 use Rattle.fence_timeline.specs.Runs.{between}
 
 module _ {A : Type 0} where

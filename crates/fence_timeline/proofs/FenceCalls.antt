@@ -8,13 +8,13 @@ use Rattle.dx_base.specs.Each.{Each}
 use Rattle.dx_base.proofs.Each.{each_append}
 use Rattle.fence_timeline.specs.declared.update.Update.{Update}
 use Rattle.fence_timeline.specs.declared.wait.Wait.{Wait}
-use Rattle.fence_timeline.specs.Waits.{IsIn, AreNumbered, earliest, AreInOrder, without}
-use Rattle.fence_timeline.specs.FenceList.{FenceList, IsSame, IsFenceList, let_go, pending_of, applied_of, caught, left, is_reached, host_update, host_signalled, caught_up, done_with, armed_with}
+use Rattle.fence_timeline.specs.Waits.{AreNumbered, earliest, AreInOrder, without}
+use Rattle.fence_timeline.specs.FenceList.{IsSame, let_go, caught, left, is_reached, host_update, host_signalled, caught_up, done_with}
 use Rattle.fence_timeline.specs.Endings.{EndsAlike}
 use Rattle.fence_timeline.specs.Fence.{list_of, spare_of, IsFence}
 use Rattle.fence_timeline.proofs.WaitList.{numbered_without, each_without, numbered_behind}
 use Rattle.fence_timeline.proofs.PendingList.{ends_left}
-use Rattle.fence_timeline.proofs.OrderedWaits.{ordered_up, ordered_without, ordered_behind, earliest_behind, ordered_le}
+use Rattle.fence_timeline.proofs.OrderedWaits.{ordered_up, ordered_without, ordered_behind, earliest_behind}
 use Rattle.fence_timeline.proofs.KeptFence.{let_go_same, let_go_keeps, pending_is, applied_is}
 
 -- the pending updates in two parts
@@ -49,11 +49,11 @@ pub caught_before : (f : FenceId) (base e : ℕ) (applied applied1 pending pendi
     IsBefore f base applied1 pending1 e ws
 caught_before f base e applied applied1 pending pending1 ws counters is caught_is left_is room =
     let count : length applied1.items ≡ length applied.items + length (caught counters pending.items) =
-      ap length caught_is ∙ length-append applied.items (caught counters pending.items) in
+    ap length caught_is ∙ length-append applied.items (caught counters pending.items) in
     let sum : length (caught counters pending.items) + length pending1.items ≡ length pending.items =
-      ap (λ (us : List Update). length (caught counters pending.items) + length us) left_is
-      ∙ sym (length-append (caught counters pending.items) (left counters pending.items))
-      ∙ ap length (caught_left counters pending.items)
+    ap (λ (us : List Update). length (caught counters pending.items) + length us) left_is
+    ∙ sym (length-append (caught counters pending.items) (left counters pending.items))
+    ∙ ap length (caught_left counters pending.items)
     in
     record {
       some = omega (arith, is.some);
@@ -73,19 +73,19 @@ caught_same f base base2 e applied applied1 applied2 pending pending1 ws counter
     let A : List Update = applied.items in
     let P : List Update = pending.items in
     let parts : A ++ P ≡ applied1.items ++ pending1.items =
-      ap (λ us. A ++ us) (sym (caught_left counters P))
-      ∙ sym (append_assoc A (caught counters P) (left counters P))
-      ∙ ap (λ us. us ++ left counters P) (sym caught_is)
-      ∙ ap (λ us. applied1.items ++ us) (sym left_is)
+    ap (λ us. A ++ us) (sym (caught_left counters P))
+    ∙ sym (append_assoc A (caught counters P) (left counters P))
+    ∙ ap (λ us. us ++ left counters P) (sym caught_is)
+    ∙ ap (λ us. applied1.items ++ us) (sym left_is)
     in
     let count : length A + length (caught counters (drop (length A) (A ++ P))) ≡ length applied1.items =
-      ap (λ (us : List Update). length A + length (caught counters us)) (pending_is A P)
-      ∙ sym (length-append A (caught counters P))
-      ∙ ap length (sym caught_is)
+    ap (λ (us : List Update). length A + length (caught counters us)) (pending_is A P)
+    ∙ sym (length-append A (caught counters P))
+    ∙ ap length (sym caught_is)
     in
     let_go_same
-      f base base2 (length A + length (caught counters (drop (length A) (A ++ P)))) (spare_of base applied pending) applied1 applied2 pending1 (A ++ P) ws
-      parts count is.some is.in_order first kept
+    f base base2 (length A + length (caught counters (drop (length A) (A ++ P)))) (spare_of base applied pending) applied1 applied2 pending1 (A ++ P) ws
+    parts count is.some is.in_order first kept
 
 -- a host signal
 pub host_before : (f : FenceId) (base e v : ℕ) (applied applied1 pending : Roomy Update) (ws : List Wait) → IsFence f base applied pending e ws →
@@ -111,15 +111,15 @@ host_same f base base2 e v applied applied1 applied2 pending ws is more first ke
     let A : List Update = applied.items in
     let P : List Update = pending.items in
     let parts : take (length A) (A ++ P) ++ (host_update v ∷ drop (length A) (A ++ P)) ≡ applied1.items ++ P =
-      ap (λ us. us ++ (host_update v ∷ drop (length A) (A ++ P))) (applied_is A P)
-      ∙ ap (λ us. A ++ (host_update v ∷ us)) (pending_is A P)
-      ∙ sym (append_assoc A (host_update v ∷ []) P)
-      ∙ ap (λ us. us ++ P) (sym more)
+    ap (λ us. us ++ (host_update v ∷ drop (length A) (A ++ P))) (applied_is A P)
+    ∙ ap (λ us. A ++ (host_update v ∷ us)) (pending_is A P)
+    ∙ sym (append_assoc A (host_update v ∷ []) P)
+    ∙ ap (λ us. us ++ P) (sym more)
     in
     let count : length A + 1 ≡ length applied1.items = sym (length_push A (host_update v)) ∙ ap length (sym more) in
     let_go_same
-      f base base2 (length A + 1) (spare_of base applied pending) applied1 applied2 pending (take (length A) (A ++ P) ++ (host_update v ∷ drop (length A) (A ++ P))) ws
-      parts count is.some is.in_order first kept
+    f base base2 (length A + 1) (spare_of base applied pending) applied1 applied2 pending (take (length A) (A ++ P) ++ (host_update v ∷ drop (length A) (A ++ P))) ws
+    parts count is.some is.in_order first kept
 
 -- a wait that is done
 pub done_before : (f : FenceId) (base e n : ℕ) (applied pending : Roomy Update) (ws left : List Wait) → IsFence f base applied pending e ws → left ≡ without n ws →
@@ -139,22 +139,22 @@ pub done_same : (f : FenceId) (base base2 e : ℕ) (applied applied2 pending : R
     IsSame (list_of f base2 applied2 pending left) (done_with w (list_of f base applied pending ws))
 done_same f base base2 e applied applied2 pending w ws left is are first kept =
     let known = let_go_same
-      f base base2 (length applied.items) (spare_of base applied pending) applied applied2 pending (applied.items ++ pending.items) left
-      refl refl is.some is.in_order first kept
+    f base base2 (length applied.items) (spare_of base applied pending) applied applied2 pending (applied.items ++ pending.items) left
+    refl refl is.some is.in_order first kept
     in
     subst
-      (λ (xs : List Wait).
-        IsSame
-          (list_of f base2 applied2 pending left)
-          (let_go (record {
-            id = f;
-            base = base;
-            updates = applied.items ++ pending.items;
-            applied = length applied.items;
-            armed = xs;
-            spare = spare_of base applied pending;
-          })))
-      are known
+    (λ (xs : List Wait).
+    IsSame
+    (list_of f base2 applied2 pending left)
+    (let_go (record {
+      id = f;
+      base = base;
+      updates = applied.items ++ pending.items;
+      applied = length applied.items;
+      armed = xs;
+      spare = spare_of base applied pending;
+    })))
+    are known
 
 -- a wait that is armed
 pub armed_keeps : (f : FenceId) (base e : ℕ) (applied pending : Roomy Update) (w : Wait) (ws all : List Wait) → IsFence f base applied pending e ws → all ≡ ws ++ w ∷ [] →

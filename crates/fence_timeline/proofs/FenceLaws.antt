@@ -1,19 +1,18 @@
 -- The laws of fences as lists of updates.
-use Rattle.std.proofs.Common.{ℕ, zero, suc, ◌≡◌, ◌≢◌, ◌≤◌, ◌<◌, ◌+◌, ◌-◌, ◌∙◌, refl, ap, sym, subst, List, [], ◌∷◌, ◌++◌, length, take, drop, slice_get, Option, Some, None, Bool, true, false, cond, arith, length-append, append_assoc}
+use Rattle.std.proofs.Common.{ℕ, zero, suc, ◌≡◌, ◌≢◌, ◌≤◌, ◌+◌, ◌-◌, ◌∙◌, refl, ap, sym, List, [], ◌∷◌, ◌++◌, length, take, drop, slice_get, Option, Some, None, Bool, true, false, cond, arith, length-append}
 use Rattle.std.specs.Prelude.{is_some, ◌==◌, if◌then◌else◌, filter}
 use Rattle.std.specs.Option.{option_map, option_or}
-use Rattle.std.specs.List.{find}
 use Rattle.std.proofs.lemmas.Bool.Decides.{nat_tests}
-use Rattle.std.proofs.lemmas.List.{drop_at, take_at, drop-append-le, drop-drop, drop-take, length-take-le, take-append-drop}
+use Rattle.std.proofs.lemmas.List.{drop-append-le, drop-drop, drop-take, length-take-le, take-append-drop}
 use Rattle.dx_base.specs.Each.{Each}
 use Rattle.fence_timeline.specs.declared.update.Update.{Update}
 use Rattle.fence_timeline.specs.declared.wait.Wait.{Wait}
 use Rattle.fence_timeline.specs.Sufficient.{suffices, first_sufficient}
 use Rattle.fence_timeline.specs.Waits.{IsIn, without, earliest, AreInOrder}
-use Rattle.fence_timeline.specs.FenceList.{FenceList, IsFenceList, applied_of, pending_of, current, resolved, is_met, is_reached, caught, left, let_go, caught_up, host_signalled, host_update, done_with}
+use Rattle.fence_timeline.specs.FenceList.{FenceList, IsFenceList, applied_of, pending_of, current, resolved, is_met, is_reached, caught, left, let_go, host_update}
 use Rattle.fence_timeline.specs.Laws.{first_applied, TargetsInOrder, BeginsUnreached, AreReachedInOrder, CatchesUpInOrder, marked_by, MarksWhatSuffices, NothingIsLost}
 use Rattle.fence_timeline.proofs.Greatest.{first_append, or_assoc}
-use Rattle.fence_timeline.proofs.OrderedWaits.{ordered_le, ordered_up, ordered_without, earliest_low, earliest_high, since_within}
+use Rattle.fence_timeline.proofs.OrderedWaits.{ordered_up, ordered_without, earliest_low, earliest_high, since_within}
 use Rattle.fence_timeline.proofs.FenceCalls.{caught_left}
 
 -- the earliest update that is needed is not behind that of a wait
@@ -54,7 +53,7 @@ applied_stays s is =
 met_stays : (s : FenceList) (w : Wait) → IsLetting s → IsIn s.armed w → is_met (let_go s) w ≡ is_met s w
 met_stays s w is armed =
     ap (λ us. is_some (first_sufficient w.value us))
-      (ap (drop (w.since - earliest (current s) s.armed)) (applied_stays s is) ∙ rest_stays s w (applied_of s) is armed)
+    (ap (drop (w.since - earliest (current s) s.armed)) (applied_stays s is) ∙ rest_stays s w (applied_of s) is armed)
 
 -- the updates from a place among the applied ones on
 parts_from : (s : FenceList) (k : ℕ) → k ≤ s.applied → s.applied ≤ length s.updates → drop k s.updates ≡ drop k (applied_of s) ++ pending_of s
@@ -78,7 +77,7 @@ host_in_order : (s : FenceList) (w : Wait) (v : ℕ) → IsFenceList s → IsIn 
 host_in_order s w v is armed =
     let k : ℕ = w.since - s.base in
     ap (first_sufficient w.value)
-      (drop-append-le (w.since - s.base) (applied_of s) (host_update v ∷ pending_of s) (omega (arith, since_applied s w is armed, length-take-le s.applied s.updates is.inside)))
+    (drop-append-le (w.since - s.base) (applied_of s) (host_update v ∷ pending_of s) (omega (arith, since_applied s w is armed, length-take-le s.applied s.updates is.inside)))
     ∙ first_append w.value (drop (w.since - s.base) (applied_of s)) (host_update v ∷ pending_of s)
     ∙ ap (option_or (first_applied s w)) (first_append w.value (host_update v ∷ []) (pending_of s))
 
@@ -86,9 +85,9 @@ host_letting : (s : FenceList) (v : ℕ) → IsFenceList s → IsLetting (record
 host_letting s v is = record {
   some = omega arith;
   inside =
-    let a = length-append (take s.applied s.updates) (host_update v ∷ drop s.applied s.updates) in
-    let b = length-take-le s.applied s.updates is.inside in
-    omega (arith, a, b);
+      let a = length-append (take s.applied s.updates) (host_update v ∷ drop s.applied s.updates) in
+      let b = length-take-le s.applied s.updates is.inside in
+      omega (arith, a, b);
   in_order = ordered_up s.base (current s) (s.base + (s.applied + 1 - 1)) s.armed (omega arith) is.in_order;
 }
 
@@ -96,8 +95,8 @@ pub targets_in_order : TargetsInOrder
 targets_in_order = record {
   target = λ s w is armed. ap (option_map (λ (u : Update). u.target)) (in_order s w is armed);
   host = λ s w v is armed.
-    target_stays (record s { updates = applied_of s ++ (host_update v ∷ pending_of s); applied = s.applied + 1 }) w (host_letting s v is) armed
-    ∙ ap (option_map (λ (u : Update). u.target)) (host_in_order s w v is armed);
+      target_stays (record s { updates = applied_of s ++ (host_update v ∷ pending_of s); applied = s.applied + 1 }) w (host_letting s v is) armed
+      ∙ ap (option_map (λ (u : Update). u.target)) (host_in_order s w v is armed);
 }
 
 -- catching up
@@ -169,23 +168,23 @@ other_stays (x ∷ ws) (suc k) n other got differs = by_test (x.number == n) (ot
 pub nothing_lost : NothingIsLost
 nothing_lost = record {
   catching_up = λ s w counters is armed.
-    target_stays (record s { applied = s.applied + length (caught counters (pending_of s)) }) w (record {
-      some = omega (arith, is.some);
-      inside =
-        let a = length-append (caught counters (pending_of s)) (left counters (pending_of s)) in
-        let b = ap length (caught_left counters (pending_of s)) in
-        let c = length-append (take s.applied s.updates) (drop s.applied s.updates) in
-        let d = ap length (take-append-drop s.applied s.updates) in
-        let e = length-take-le s.applied s.updates is.inside in
-        omega (arith, a, b, c, d, e);
-      in_order = ordered_up s.base (current s) (s.base + (s.applied + length (caught counters (pending_of s)) - 1)) s.armed (omega arith) is.in_order;
-    }) armed;
+      target_stays (record s { applied = s.applied + length (caught counters (pending_of s)) }) w (record {
+        some = omega (arith, is.some);
+        inside =
+            let a = length-append (caught counters (pending_of s)) (left counters (pending_of s)) in
+            let b = ap length (caught_left counters (pending_of s)) in
+            let c = length-append (take s.applied s.updates) (drop s.applied s.updates) in
+            let d = ap length (take-append-drop s.applied s.updates) in
+            let e = length-take-le s.applied s.updates is.inside in
+            omega (arith, a, b, c, d, e);
+        in_order = ordered_up s.base (current s) (s.base + (s.applied + length (caught counters (pending_of s)) - 1)) s.armed (omega arith) is.in_order;
+      }) armed;
   letting_go = λ s w other is armed stays.
-    let letting : IsLetting (record s { armed = without w.number s.armed }) = record {
-      some = is.some;
-      inside = is.inside;
-      in_order = ordered_without s.base (current s) w.number s.armed is.in_order;
-    } in
-    (target_stays (record s { armed = without w.number s.armed }) other letting stays, met_stays (record s { armed = without w.number s.armed }) other letting stays);
+      let letting : IsLetting (record s { armed = without w.number s.armed }) = record {
+        some = is.some;
+        inside = is.inside;
+        in_order = ordered_without s.base (current s) w.number s.armed is.in_order;
+      } in
+      (target_stays (record s { armed = without w.number s.armed }) other letting stays, met_stays (record s { armed = without w.number s.armed }) other letting stays);
   others = λ ws w other armed differs. other_stays ws armed.place w.number other armed.stands differs;
 }

@@ -1,14 +1,11 @@
 -- The greatest value among updates, and the first that suffices.
-use Rattle.std.proofs.Common.{ℕ, zero, suc, ◌≡◌, ◌≤◌, ◌<◌, ◌-◌, ◌∙◌, max, refl, ap, sym, subst, List, [], ◌∷◌, ◌++◌, length, slice_get, Option, Some, None, Bool, true, false, cond, arith, add-one}
-use Rattle.std.specs.Prelude.{nat_le}
+use Rattle.std.proofs.Common.{ℕ, ◌≡◌, ◌≤◌, ◌<◌, ◌∙◌, max, refl, ap, List, [], ◌∷◌, ◌++◌, Option, Some, None, Bool, true, false, cond, arith}
 use Rattle.std.specs.Option.{option_or}
-use Rattle.std.specs.List.{find}
 use Rattle.std.proofs.lemmas.List.Folds.{find-append}
 use Rattle.std.proofs.lemmas.Bool.Decides.{nat_tests}
 use Rattle.fence_timeline.specs.declared.update.Update.{Update}
 use Rattle.fence_timeline.specs.Sufficient.{suffices, first_sufficient}
-use Rattle.fence_timeline.specs.Runs.{between, greatest, StartsRun}
-use Rattle.fence_timeline.proofs.Between.{between_split, between_last, between_none}
+use Rattle.fence_timeline.specs.Runs.{greatest}
 
 -- of two lists
 pub greatest_append : (us vs : List Update) → greatest (us ++ vs) ≡ max (greatest us) (greatest vs)

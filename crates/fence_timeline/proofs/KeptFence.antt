@@ -1,5 +1,5 @@
 -- What a fence keeps, as a list of updates.
-use Rattle.std.proofs.Common.{ℕ, zero, suc, ◌≡◌, ◌≤◌, ◌<◌, ◌+◌, ◌-◌, ◌^◌, ◌∙◌, refl, ap, sym, subst, List, [], ◌∷◌, ◌++◌, length, take, drop, slice_get, Option, Some, None, arith, length-append, length-drop, append_assoc}
+use Rattle.std.proofs.Common.{ℕ, ◌≡◌, ◌≤◌, ◌+◌, ◌-◌, ◌^◌, ◌∙◌, refl, ap, sym, List, ◌++◌, length, take, drop, arith, length-append, length-drop}
 use Rattle.std.specs.Option.{option_or}
 use Rattle.std.proofs.lemmas.List.{drop_at, take_at, drop-append-le}
 use Rattle.dx_base.specs.declared.ids.FenceId.{FenceId}
@@ -9,7 +9,7 @@ use Rattle.fence_timeline.specs.declared.update.Update.{Update}
 use Rattle.fence_timeline.specs.declared.wait.Wait.{Wait}
 use Rattle.fence_timeline.specs.Sufficient.{first_sufficient}
 use Rattle.fence_timeline.specs.Waits.{IsIn, AreNumbered, earliest, AreInOrder}
-use Rattle.fence_timeline.specs.FenceList.{FenceList, IsSame, IsFenceList, let_go, pending_of, applied_of}
+use Rattle.fence_timeline.specs.FenceList.{IsSame, IsFenceList, let_go}
 use Rattle.fence_timeline.specs.Endings.{EndsAlike}
 use Rattle.fence_timeline.specs.Fence.{list_of, IsFence}
 use Rattle.fence_timeline.proofs.Greatest.{first_append}
@@ -53,12 +53,12 @@ let_go_same f base base2 n room applied applied2 pending us ws parts count some 
       id = refl;
       base = sym now;
       updates =
-        ap (λ xs. xs ++ pending.items) kept
-        ∙ sym (drop-append-le (base2 - base) applied.items pending.items (omega (arith, first)))
-        ∙ ap (drop (base2 - base)) (sym parts)
-        ∙ ap (λ (k : ℕ). drop (k - base) us) (sym now);
+          ap (λ xs. xs ++ pending.items) kept
+          ∙ sym (drop-append-le (base2 - base) applied.items pending.items (omega (arith, first)))
+          ∙ ap (drop (base2 - base)) (sym parts)
+          ∙ ap (λ (k : ℕ). drop (k - base) us) (sym now);
       applied =
-        ap length kept ∙ length-drop (base2 - base) applied.items ∙ ap (λ (k : ℕ). k - (base2 - base)) (sym count) ∙ ap (λ (k : ℕ). n - (k - base)) (sym now);
+          ap length kept ∙ length-drop (base2 - base) applied.items ∙ ap (λ (k : ℕ). k - (base2 - base)) (sym count) ∙ ap (λ (k : ℕ). n - (k - base)) (sym now);
       armed = refl;
     }
 

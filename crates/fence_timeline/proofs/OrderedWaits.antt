@@ -1,5 +1,5 @@
 -- The updates that were current when waits were armed.
-use Rattle.std.proofs.Common.{ℕ, zero, suc, ◌≡◌, ◌≤◌, ◌<◌, refl, subst, List, [], ◌∷◌, ◌++◌, slice_get, Some, Bool, true, false, arith}
+use Rattle.std.proofs.Common.{ℕ, zero, suc, ◌≡◌, ◌≤◌, refl, subst, List, [], ◌∷◌, ◌++◌, slice_get, Some, Bool, true, false, arith}
 use Rattle.std.specs.Prelude.{◌==◌, if◌then◌else◌}
 use Rattle.fence_timeline.specs.declared.wait.Wait.{Wait}
 use Rattle.fence_timeline.specs.Waits.{without, earliest, AreInOrder}

@@ -1,14 +1,12 @@
 -- The greatest values of runs, and the search through them.
-use Rattle.std.proofs.Common.{ℕ, zero, suc, ◌≡◌, ◌≤◌, ◌<◌, ◌-◌, ◌+◌, ◌∙◌, max, refl, ap, sym, subst, List, [], ◌∷◌, ◌++◌, length, map, drop, get_or, slice_get, Option, Some, None, Bool, true, false, arith, length-append, option_map, inl, inr, ◌⊎◌}
-use Rattle.std.specs.Option.{option_or}
+use Rattle.std.proofs.Common.{ℕ, zero, suc, ◌≡◌, ◌≤◌, ◌<◌, ◌-◌, ◌+◌, ◌∙◌, max, refl, ap, sym, subst, List, [], ◌∷◌, ◌++◌, length, drop, get_or, slice_get, Some, arith, option_map, inl, inr, ◌⊎◌}
 use Rattle.std.proofs.lemmas.List.{length-map, map-append}
-use Rattle.std.proofs.lemmas.Option.{slice_get-map, slice_get_read, slice_get_within}
+use Rattle.std.proofs.lemmas.Option.{slice_get-map, slice_get_read}
 use Rattle.fence_timeline.specs.declared.update.Update.{Update}
 use Rattle.fence_timeline.specs.declared.runs.Entry.{Entry}
-use Rattle.fence_timeline.specs.Sufficient.{first_sufficient}
-use Rattle.fence_timeline.specs.Runs.{updates_in, between, greatest, IsPeak, IsIndexed, StartsRun}
-use Rattle.fence_timeline.proofs.Between.{between_split, between_last, between_none, between_one, between_front, between_all}
-use Rattle.fence_timeline.proofs.Greatest.{greatest_append, none_suffices, one_suffices, first_append, or_some, or_assoc, or_none}
+use Rattle.fence_timeline.specs.Runs.{updates_in, between, greatest, IsPeak, IsIndexed}
+use Rattle.fence_timeline.proofs.Between.{between_split, between_one, between_front}
+use Rattle.fence_timeline.proofs.Greatest.{greatest_append}
 
 -- the item that was appended
 pub got_behind : {A : Type 0} (xs : List A) (x : A) (n : ℕ) → n ≡ length xs → slice_get (xs ++ x ∷ []) n ≡ Some x
@@ -44,9 +42,9 @@ joined_peak us u n m k p q low high count right left =
     let all : List Update = us ++ u ∷ [] in
     let own : between n (suc n) all ≡ u ∷ [] = between_one all n u (got_behind us u n count) in
     let parts : between k (suc n) all ≡ between k n us ++ u ∷ [] =
-      between_split all k n (suc n) (omega arith) (omega arith)
-      ∙ ap (λ xs. xs ++ between n (suc n) all) (between_front us (u ∷ []) k n (omega arith))
-      ∙ ap (λ xs. between k n us ++ xs) own
+    between_split all k n (suc n) (omega arith) (omega arith)
+    ∙ ap (λ xs. xs ++ between n (suc n) all) (between_front us (u ∷ []) k n (omega arith))
+    ∙ ap (λ xs. between k n us ++ xs) own
     in
     rw (parts, between_split us k m n low high) (omega (
       arith,
@@ -67,14 +65,14 @@ pub joined_entry : (es : List Entry) (u : Update) (i j n : ℕ) (a b e : Entry) 
 joined_entry es u i j n a b e indexed count last got short next got_before fits run peak = record {
   some = omega arith;
   peak = λ _.
-    let start : suc n - e.run ≡ (n - a.run) - b.run = omega arith in
-    let right = run_peak es i n a indexed last got (omega arith) in
-    let left = run_peak es j (n - a.run) b indexed next got_before (omega arith) in
-    peak
-    ∙ joined_peak
+      let start : suc n - e.run ≡ (n - a.run) - b.run = omega arith in
+      let right = run_peak es i n a indexed last got (omega arith) in
+      let left = run_peak es j (n - a.run) b indexed next got_before (omega arith) in
+      peak
+      ∙ joined_peak
       (updates_in es) u n (n - a.run) ((n - a.run) - b.run) a.peak b.peak
       (omega arith) (omega arith) (omega (arith, length-map es (λ (x : Entry). x.update))) right left
-    ∙ ap (λ k. greatest (between k (suc n) (updates_in es ++ u ∷ []))) (sym start);
+      ∙ ap (λ k. greatest (between k (suc n) (updates_in es ++ u ∷ []))) (sym start);
 }
 
 -- the entry of an update behind the others, alone
@@ -82,10 +80,10 @@ pub lone_entry : (es : List Entry) (u : Update) (n : ℕ) (e : Entry) → n ≡ 
 lone_entry es u n e count run peak = record {
   some = omega arith;
   peak = λ _.
-    let start : suc n - e.run ≡ n = omega arith in
-    peak
-    ∙ lone_peak (updates_in es) u n (omega (arith, length-map es (λ (x : Entry). x.update)))
-    ∙ ap (λ k. greatest (between k (suc n) (updates_in es ++ u ∷ []))) (sym start);
+      let start : suc n - e.run ≡ n = omega arith in
+      peak
+      ∙ lone_peak (updates_in es) u n (omega (arith, length-map es (λ (x : Entry). x.update)))
+      ∙ ap (λ k. greatest (between k (suc n) (updates_in es ++ u ∷ []))) (sym start);
 }
 
 -- no entries
@@ -109,11 +107,11 @@ got_append (z ∷ xs) x y (suc i) is = elim (got_append xs x y i is) [ inl w ↦
 pub indexed_behind : (es : List Entry) (u : Update) (e : Entry) → IsIndexed es → e.update ≡ u → IsPeak (updates_in es ++ u ∷ []) (length es) e → IsIndexed (es ++ e ∷ [])
 indexed_behind es u e indexed is peak = record {
   peaks = λ i d got.
-    let all : updates_in (es ++ e ∷ []) ≡ updates_in es ++ u ∷ [] = map-append (λ (x : Entry). x.update) es (e ∷ []) ∙ ap (λ x. updates_in es ++ x ∷ []) is in
-    subst (λ us. IsPeak us i d) (sym all) (elim (got_append es e d i got) [
-      inl w ↦ peak_before (updates_in es) (u ∷ []) i d (omega (arith, w.0, length-map es (λ (x : Entry). x.update))) (indexed.peaks i d w.1)
-      | inr w ↦ subst (λ (x : Entry). IsPeak (updates_in es ++ u ∷ []) i x) w.1 (subst (λ n. IsPeak (updates_in es ++ u ∷ []) n e) (sym w.0) peak)
-    ]);
+      let all : updates_in (es ++ e ∷ []) ≡ updates_in es ++ u ∷ [] = map-append (λ (x : Entry). x.update) es (e ∷ []) ∙ ap (λ x. updates_in es ++ x ∷ []) is in
+      subst (λ us. IsPeak us i d) (sym all) (elim (got_append es e d i got) [
+        | inl w ↦ peak_before (updates_in es) (u ∷ []) i d (omega (arith, w.0, length-map es (λ (x : Entry). x.update))) (indexed.peaks i d w.1)
+        | inr w ↦ subst (λ (x : Entry). IsPeak (updates_in es ++ u ∷ []) i x) w.1 (subst (λ n. IsPeak (updates_in es ++ u ∷ []) n e) (sym w.0) peak)
+      ]);
 }
 
 -- without the first entry
@@ -123,8 +121,8 @@ indexed_rest (x ∷ es) indexed = record {
   peaks = λ i e got. let is : IsPeak (updates_in (x ∷ es)) (suc i) e = indexed.peaks (suc i) e got in record {
     some = is.some;
     peak = λ short.
-      let start : suc (suc i) - e.run ≡ suc (suc i - e.run) = omega arith in
-      is.peak (omega arith) ∙ ap (λ k. greatest (between k (suc (suc i)) (updates_in (x ∷ es)))) start;
+        let start : suc (suc i) - e.run ≡ suc (suc i - e.run) = omega arith in
+        is.peak (omega arith) ∙ ap (λ k. greatest (between k (suc (suc i)) (updates_in (x ∷ es)))) start;
   };
 }
 

@@ -1,6 +1,6 @@
 -- The pending updates of a fence: how they end, and which of them the counters reached.
-use Rattle.std.proofs.Common.{ℕ, zero, suc, ◌≡◌, ◌≢◌, ◌≤◌, ◌<◌, ◌+◌, ◌-◌, ◌∙◌, refl, ap, sym, subst, List, [], ◌∷◌, ◌++◌, length, take, drop, get_or, slice_get, Option, Some, None, Bool, true, false, arith, length-append, min, inl, inr, ◌⊎◌}
-use Rattle.std.specs.Prelude.{nat_le, ◌==◌, if◌then◌else◌}
+use Rattle.std.proofs.Common.{ℕ, zero, suc, ◌≡◌, ◌≤◌, ◌<◌, ◌+◌, ◌-◌, ◌∙◌, refl, ap, sym, subst, List, [], ◌∷◌, ◌++◌, length, take, drop, slice_get, Option, Some, None, Bool, true, false, arith, min, inl, inr, ◌⊎◌}
+use Rattle.std.specs.Prelude.{◌==◌, if◌then◌else◌}
 use Rattle.std.specs.Option.{option_or}
 use Rattle.std.proofs.lemmas.Bool.Decides.{nat_tests}
 use Rattle.std.proofs.lemmas.List.{drop-append-le, drop_at, take-append-drop, length-take-le, length_push}
@@ -10,7 +10,7 @@ use Rattle.dx_base.proofs.Each.{each_append}
 use Rattle.fence_timeline.specs.declared.update.Target.{Target}
 use Rattle.fence_timeline.specs.declared.update.Target.TheVariants.{Host, Gpu}
 use Rattle.fence_timeline.specs.declared.update.Update.{Update}
-use Rattle.fence_timeline.specs.FenceList.{other_queue, last_other, is_reached, HaveCounters, caught, left, gpu_update}
+use Rattle.fence_timeline.specs.FenceList.{other_queue, last_other, is_reached, HaveCounters, caught, left}
 use Rattle.fence_timeline.specs.Endings.{IsOf, IsOfOther, EndsAlike, StandsReached}
 
 -- of two lists
@@ -101,21 +101,21 @@ ends_rest e u us is = by_order (le_or_lt e (length us))
       queue = is.queue;
       some = is.some;
       own =
-        let start : suc (length us) - e ≡ suc (length us - e) = omega arith in
-        subst (λ (k : ℕ). Each (λ (x : Update). IsOf is.queue x.target) (drop k (u ∷ us))) start is.own;
+          let start : suc (length us) - e ≡ suc (length us - e) = omega arith in
+          subst (λ (k : ℕ). Each (λ (x : Update). IsOf is.queue x.target) (drop k (u ∷ us))) start is.own;
       other = λ x less got.
-        let place : suc (length us) - 1 - e ≡ suc (length us - 1 - e) = omega arith in
-        is.other x (omega arith) (ap (slice_get (u ∷ us)) place ∙ got);
+          let place : suc (length us) - 1 - e ≡ suc (length us - 1 - e) = omega arith in
+          is.other x (omega arith) (ap (slice_get (u ∷ us)) place ∙ got);
     }
     by_order (inr high) = record {
       queue = is.queue;
       some = is.some;
       own =
-        let all : suc (length us) - e ≡ 0 = omega arith in
-        let none : length us - e ≡ 0 = omega arith in
-        let own : Each (λ (x : Update). IsOf is.queue x.target) (u ∷ us) =
+          let all : suc (length us) - e ≡ 0 = omega arith in
+          let none : length us - e ≡ 0 = omega arith in
+          let own : Each (λ (x : Update). IsOf is.queue x.target) (u ∷ us) =
           subst (λ (k : ℕ). Each (λ (x : Update). IsOf is.queue x.target) (drop k (u ∷ us))) all is.own in
-        subst (λ (k : ℕ). Each (λ (x : Update). IsOf is.queue x.target) (drop k us)) (sym none) own.1;
+          subst (λ (k : ℕ). Each (λ (x : Update). IsOf is.queue x.target) (drop k us)) (sym none) own.1;
       other = λ x less got. absurd (omega arith);
     }
 
@@ -144,12 +144,12 @@ lone_end us w q of other = record {
   queue = q;
   some = omega arith;
   own =
-    let start : length (us ++ w ∷ []) - 1 ≡ length us = omega (arith, length_push us w) in
-    rw (start, drop_at us (w ∷ []) (length us) refl) (of, tt);
+      let start : length (us ++ w ∷ []) - 1 ≡ length us = omega (arith, length_push us w) in
+      rw (start, drop_at us (w ∷ []) (length us) refl) (of, tt);
   other = λ x less got.
-    let place : length (us ++ w ∷ []) - 1 - 1 ≡ length us - 1 = omega (arith, length_push us w) in
-    let some : 1 ≤ length us = omega (arith, length_push us w) in
-    other x (sym (got_front us (w ∷ []) (length us - 1) (omega arith)) ∙ ap (slice_get (us ++ w ∷ [])) (sym place) ∙ got);
+      let place : length (us ++ w ∷ []) - 1 - 1 ≡ length us - 1 = omega (arith, length_push us w) in
+      let some : 1 ≤ length us = omega (arith, length_push us w) in
+      other x (sym (got_front us (w ∷ []) (length us - 1) (omega arith)) ∙ ap (slice_get (us ++ w ∷ [])) (sym place) ∙ got);
 }
 
 same_queue : (p q : ℕ) (t : Target) → IsOf p t → IsOf q t → p ≡ q
@@ -169,14 +169,14 @@ joined_end us w x q e more is last of too count = record {
   queue = is.queue;
   some = omega arith;
   own =
-    let start : length (us ++ w ∷ []) - more ≡ length us - e = omega (arith, length_push us w) in
-    let same : is.queue ≡ q = same_queue is.queue q x.target (last_own us e x is last) of in
-    rw (start, drop-append-le (length us - e) us (w ∷ []) (omega arith))
+      let start : length (us ++ w ∷ []) - more ≡ length us - e = omega (arith, length_push us w) in
+      let same : is.queue ≡ q = same_queue is.queue q x.target (last_own us e x is last) of in
+      rw (start, drop-append-le (length us - e) us (w ∷ []) (omega arith))
       (each_append (λ u. IsOf is.queue u.target) (drop (length us - e) us) (w ∷ []) is.own (rw same too, tt));
   other = λ y less got.
-    let place : length (us ++ w ∷ []) - 1 - more ≡ length us - 1 - e = omega (arith, length_push us w) in
-    let fewer : e < length us = omega (arith, length_push us w) in
-    is.other y fewer (sym (got_front us (w ∷ []) (length us - 1 - e) (omega arith)) ∙ ap (slice_get (us ++ w ∷ [])) (sym place) ∙ got);
+      let place : length (us ++ w ∷ []) - 1 - more ≡ length us - 1 - e = omega (arith, length_push us w) in
+      let fewer : e < length us = omega (arith, length_push us w) in
+      is.other y fewer (sym (got_front us (w ∷ []) (length us - 1 - e) (omega arith)) ∙ ap (slice_get (us ++ w ∷ [])) (sym place) ∙ got);
 }
 
 -- the last update is another queue's

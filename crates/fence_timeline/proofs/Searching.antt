@@ -1,10 +1,10 @@
 -- The search for the first update that suffices, run by run from the end on.
-use Rattle.std.proofs.Common.{ℕ, suc, ◌≡◌, ◌≤◌, ◌<◌, ◌+◌, ◌∙◌, refl, ap, sym, List, [], ◌∷◌, ◌++◌, zero, slice_get, drop, length, Option, Some, None, arith}
+use Rattle.std.proofs.Common.{ℕ, suc, ◌≡◌, ◌≤◌, ◌<◌, ◌∙◌, refl, ap, sym, List, [], ◌∷◌, ◌++◌, zero, slice_get, length, Option, Some, None, arith}
 use Rattle.std.specs.Option.{option_or}
 use Rattle.fence_timeline.specs.declared.update.Update.{Update}
 use Rattle.fence_timeline.specs.Sufficient.{first_sufficient}
 use Rattle.fence_timeline.specs.Runs.{between, greatest, StartsRun}
-use Rattle.fence_timeline.proofs.Between.{between_split, between_last, between_none, between_all}
+use Rattle.fence_timeline.proofs.Between.{between_split, between_last, between_none}
 use Rattle.fence_timeline.proofs.Greatest.{none_suffices, one_suffices, first_append, or_some, or_assoc, or_none}
 
 -- a run behind a place has the first update that suffices, where none before that place does
@@ -16,8 +16,8 @@ pub record IsBehind (v : ℕ) (us : List Update) (from end rest first last : ℕ
   pub update : Update
   pub at_last : slice_get us last ≡ Some update
   pub found :
-    first_sufficient v (between from end us)
-    ≡ option_or (first_sufficient v (between from rest us)) (option_or (first_sufficient v (between first last us)) (Some update))
+      first_sufficient v (between from end us)
+      ≡ option_or (first_sufficient v (between from rest us)) (option_or (first_sufficient v (between first last us)) (Some update))
 
 -- what was found behind a place
 abbrev pub IsFound : ℕ → List Update → ℕ → ℕ → ℕ → Option (ℕ × ℕ) → Type 0
@@ -44,8 +44,8 @@ pass_run v us from end start rest p (Some run) is low high peak less = record {
   update = is.update;
   at_last = is.at_last;
   found =
-    is.found
-    ∙ ap (λ o. option_or o (option_or (first_sufficient v (between run.0 run.1 us)) (Some is.update))) (without v us from start rest p low high peak less);
+      is.found
+      ∙ ap (λ o. option_or o (option_or (first_sufficient v (between run.0 run.1 us)) (Some is.update))) (without v us from start rest p low high peak less);
 }
 
 -- a run of which one suffices
@@ -57,8 +57,8 @@ with v us from start last rest p u low high next got peak more =
     ap (first_sufficient v) (between_split us from start rest low (omega arith))
     ∙ first_append v (between from start us) (between start rest us)
     ∙ ap
-      (λ o. option_or (first_sufficient v (between from start us)) o)
-      (ap (first_sufficient v) parted ∙ one_suffices v (between start last us) u (omega (arith, ap greatest parted)))
+    (λ o. option_or (first_sufficient v (between from start us)) o)
+    (ap (first_sufficient v) parted ∙ one_suffices v (between start last us) u (omega (arith, ap greatest parted)))
 
 pub take_run : (v : ℕ) (us : List Update) (from end start last rest p : ℕ) (u : Update) (found : Option (ℕ × ℕ)) → IsFound v us from end rest found →
     from ≤ start → start < rest → rest ≤ end → rest ≡ suc last → slice_get us last ≡ Some u → p ≡ greatest (between start rest us) → v ≤ p →
@@ -80,13 +80,13 @@ take_run v us from end start last rest p u (Some run) is low high inside next go
   update = u;
   at_last = got;
   found =
-    let A : Option Update = first_sufficient v (between from start us) in
-    let B : Option Update = first_sufficient v (between start last us) in
-    let X : Option Update = option_or (first_sufficient v (between run.0 run.1 us)) (Some is.update) in
-    is.found
-    ∙ ap (λ o. option_or o X) (with v us from start last rest p u low high next got peak more)
-    ∙ or_assoc A (option_or B (Some u)) X
-    ∙ ap (λ o. option_or A o) (or_some B X u);
+      let A : Option Update = first_sufficient v (between from start us) in
+      let B : Option Update = first_sufficient v (between start last us) in
+      let X : Option Update = option_or (first_sufficient v (between run.0 run.1 us)) (Some is.update) in
+      is.found
+      ∙ ap (λ o. option_or o X) (with v us from start last rest p u low high next got peak more)
+      ∙ or_assoc A (option_or B (Some u)) X
+      ∙ ap (λ o. option_or A o) (or_some B X u);
 }
 
 -- there is an update at each place
@@ -107,8 +107,8 @@ run_found v us from end rest run over is = record {
   update = is.update;
   at_last = is.at_last;
   found =
-    is.found
-    ∙ ap
+      is.found
+      ∙ ap
       (λ xs. option_or (first_sufficient v xs) (option_or (first_sufficient v (between run.0 run.1 us)) (Some is.update)))
       (between_none us from rest over);
 }

@@ -1,5 +1,5 @@
 -- Waits with rising numbers.
-use Rattle.std.proofs.Common.{ℕ, zero, suc, ◌≡◌, ◌≢◌, ◌≤◌, ◌<◌, ◌+◌, ◌∙◌, refl, ap, sym, subst, List, [], ◌∷◌, ◌++◌, length, get_or, slice_get, Option, Some, None, Bool, true, false, cond, arith}
+use Rattle.std.proofs.Common.{ℕ, zero, suc, ◌≡◌, ◌≤◌, ◌<◌, ◌+◌, ◌∙◌, ap, sym, subst, List, [], ◌∷◌, ◌++◌, length, get_or, slice_get, Option, Some, Bool, true, false, cond, arith}
 use Rattle.std.specs.Prelude.{nat_lt, ◌==◌, if◌then◌else◌, OnSome}
 use Rattle.std.specs.List.{prefix_len, remove}
 use Rattle.std.specs.List.Sorted.{IsPartitionedBy, IsPartitionPoint}
@@ -9,7 +9,7 @@ use Rattle.std.proofs.lemmas.List.Sums.{prefix_len_is}
 use Rattle.dx_base.specs.Each.{Each}
 use Rattle.dx_base.proofs.Each.{each_append, each_on}
 use Rattle.fence_timeline.specs.declared.wait.Wait.{Wait}
-use Rattle.fence_timeline.specs.Waits.{IsIn, AreNumbered, without, earliest, AreInOrder, IsWaits}
+use Rattle.fence_timeline.specs.Waits.{IsIn, AreNumbered, without, IsWaits}
 
 -- numbers from a lower least one on
 pub numbered_from : (low high : ℕ) (ws : List Wait) → low ≤ high → AreNumbered high ws → AreNumbered low ws
@@ -101,7 +101,7 @@ pub waits_behind : (ws : List Wait) (w : Wait) (next : ℕ) → IsWaits ws next 
 waits_behind ws w next is at = record {
   numbered = numbered_behind 0 ws w is.numbered (omega arith) (rw at is.below);
   below =
-    each_append
+      each_append
       (λ x. x.number < next + 1) ws (w ∷ [])
       (each_on (λ x. x.number < next) (λ x. x.number < next + 1) ws (λ x less. omega arith) is.below)
       (omega arith, tt);

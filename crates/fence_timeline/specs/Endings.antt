@@ -1,5 +1,5 @@
 -- How the list of pending updates ends: so many of the last ones are of one queue, and the one before them of another.
-use Rattle.std.specs.Prelude.{ℕ, ◌≡◌, ◌≢◌, ◌≤◌, ◌<◌, ◌-◌, List, [], ◌∷◌, length, drop, slice_get, Some}
+use Rattle.std.specs.Prelude.{ℕ, ◌≡◌, ◌≢◌, ◌≤◌, ◌<◌, ◌-◌, List, ◌∷◌, length, drop, slice_get, Some}
 use Rattle.dx_base.specs.Each.{Each}
 use Rattle.fence_timeline.specs.declared.update.Target.{Target}
 use Rattle.fence_timeline.specs.declared.update.Target.TheVariants.{Host, Gpu}

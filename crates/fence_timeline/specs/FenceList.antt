@@ -9,7 +9,7 @@ use Rattle.fence_timeline.specs.declared.update.Target.TheVariants.{Host, Gpu}
 use Rattle.fence_timeline.specs.declared.update.Update.{Update}
 use Rattle.fence_timeline.specs.declared.wait.Wait.{Wait}
 use Rattle.fence_timeline.specs.Sufficient.{first_sufficient}
-use Rattle.fence_timeline.specs.Waits.{IsIn, AreNumbered, without, earliest, AreInOrder}
+use Rattle.fence_timeline.specs.Waits.{AreNumbered, without, earliest, AreInOrder}
 
 -- a fence: the updates from the number `base` on, of which so many are applied, the armed waits, and how many signals
 -- it can take without asking for memory

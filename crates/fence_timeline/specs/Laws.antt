@@ -1,5 +1,5 @@
 -- The laws of fences as lists of updates, as types.
-use Rattle.std.specs.Prelude.{ℕ, ◌≡◌, ◌≢◌, ◌-◌, ◌+◌, List, [], ◌∷◌, ◌++◌, drop, Option, Some, None, is_some, Bool, true, false, if◌then◌else◌, filter}
+use Rattle.std.specs.Prelude.{ℕ, ◌≡◌, ◌≢◌, ◌-◌, List, [], ◌∷◌, ◌++◌, drop, Option, Some, None, is_some, true, false, if◌then◌else◌, filter}
 use Rattle.std.specs.Option.{option_map, option_or}
 use Rattle.dx_base.specs.Each.{Each}
 use Rattle.fence_timeline.specs.declared.update.Update.{Update}
@@ -16,10 +16,10 @@ first_applied s w = first_sufficient w.value (drop (w.since - s.base) (applied_o
 -- ones; a host signal comes between
 pub record TargetsInOrder : Type 0 where
   pub target : (s : FenceList) → (w : Wait) → IsFenceList s → IsIn s.armed w →
-    resolved s w ≡ option_map (λ u. u.target) (option_or (first_applied s w) (first_sufficient w.value (pending_of s)))
+      resolved s w ≡ option_map (λ u. u.target) (option_or (first_applied s w) (first_sufficient w.value (pending_of s)))
   pub host : (s : FenceList) → (w : Wait) → (v : ℕ) → IsFenceList s → IsIn s.armed w →
-    resolved (host_signalled v s) w
-    ≡ option_map (λ u. u.target) (option_or (first_applied s w) (option_or (first_sufficient w.value (host_update v ∷ [])) (first_sufficient w.value (pending_of s))))
+      resolved (host_signalled v s) w
+      ≡ option_map (λ u. u.target) (option_or (first_applied s w) (option_or (first_sufficient w.value (host_update v ∷ [])) (first_sufficient w.value (pending_of s))))
 
 -- what the counters reached is applied in order: first those that are caught, all of them reached, and behind them
 -- those that are left, the first of them not reached
@@ -53,5 +53,5 @@ pub record MarksWhatSuffices : Type 0 where
 pub record NothingIsLost : Type 0 where
   pub catching_up : (s : FenceList) → (w : Wait) → (counters : List ℕ) → IsFenceList s → IsIn s.armed w → resolved (caught_up counters s) w ≡ resolved s w
   pub letting_go : (s : FenceList) → (w other : Wait) → IsFenceList s → IsIn s.armed w → IsIn (without w.number s.armed) other →
-    (resolved (done_with w s) other ≡ resolved s other) × (is_met (done_with w s) other ≡ is_met s other)
+      (resolved (done_with w s) other ≡ resolved s other) × (is_met (done_with w s) other ≡ is_met s other)
   pub others : (ws : List Wait) → (w other : Wait) → IsIn ws other → other.number ≢ w.number → IsIn (without w.number ws) other

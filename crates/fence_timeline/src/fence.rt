@@ -105,7 +105,7 @@ impl Fence {
         let_go(&mut self.base, &mut self.applied, &self.waits);
     }
 
-    /// How many updates there were: the applied ones, those let go of, and the pending ones.
+    /// Whether there is no number for one more update.
     fn is_full(&self) -> bool
         ensures { result ≡ false → self.now.base + length self.now.updates < 2 ^ 64 - 1 }
     {
@@ -123,7 +123,8 @@ impl Fence {
         }
         let count = self.pending.len();
         self.applied.reserve(count + 1)?;
-        self.applied.push_reserved(host(value));
+        let update = host(value);
+        self.applied.push_reserved(update);
         let_go(&mut self.base, &mut self.applied, &self.waits);
         Ok(())
     }

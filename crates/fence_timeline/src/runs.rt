@@ -35,7 +35,12 @@ fn run_before(entries: &VecDeque<Entry>, from: usize, end: usize) -> (usize, u64
 
 /// The run with the first update that suffices, of those between two places: its first place, and that of its last
 /// update.
-fn first_run(entries: &VecDeque<Entry>, from: usize, end: usize, value: u64) -> Option<(usize, usize)>
+fn first_run(
+    entries: &VecDeque<Entry>,
+    from: usize,
+    end: usize,
+    value: u64,
+) -> Option<(usize, usize)>
     requires indexed { IsIndexed entries.now.items }
     requires inside { end ≤ length entries.now.items }
     ensures none { IfNone result (first_sufficient value (between from end (updates_in entries.now.items)) ≡ None) }

@@ -10,9 +10,9 @@ loop-base-preserved c =
       low = omega (arith, c.loop-base.invariant.low);
       high = omega arith;
       applied =
-        c.pop.ensures.rest
-        ∙ ap (drop 1) c.loop-base.invariant.applied
-        ∙ drop-drop 1 k c.args.applied.now.items
-        ∙ ap (λ n. drop n c.args.applied.now.items) next;
+          c.pop.ensures.rest
+          ∙ ap (drop 1) c.loop-base.invariant.applied
+          ∙ drop-drop 1 k c.args.applied.now.items
+          ∙ ap (λ n. drop n c.args.applied.now.items) next;
       room = omega (arith, c.pop.ensures.spare, c.loop-base.invariant.room);
     }

@@ -1,5 +1,4 @@
 use Rattle.std.proofs.Common.{sym, refl, ◌∙◌}
-use Rattle.fence_timeline.specs.FenceList.{last_other}
 use Rattle.fence_timeline.proofs.PendingList.{nothing_last, other_found, all_alike, before_found}
 use Rattle.fence_timeline.proofs.pending.last_of_other.Goals as goal
 

@@ -8,8 +8,8 @@ abbrev pub invariant-loop-first : goal.invariant-loop-first
 invariant-loop-first l = record {
   inside : l.end ≤ length l.entries.items;
   found :
-    first_sufficient l.value (drop l.fn.from (updates_in l.entries.items))
-    ≡ option_or (first_sufficient l.value (between l.start l.end (updates_in l.entries.items))) l.found;
+      first_sufficient l.value (drop l.fn.from (updates_in l.entries.items))
+      ≡ option_or (first_sufficient l.value (between l.start l.end (updates_in l.entries.items))) l.found;
 }
 
 abbrev pub decreases-loop-first : goal.decreases-loop-first

@@ -1,4 +1,4 @@
-use Rattle.std.proofs.Common.{ℕ, ◌-◌, ◌<◌, length, arith}
+use Rattle.std.proofs.Common.{◌-◌, ◌<◌, length, arith}
 use Rattle.std.proofs.lemmas.List.{length-map}
 use Rattle.fence_timeline.specs.Runs.{updates_in}
 use Rattle.fence_timeline.proofs.Searching.{pass_run, take_run, one_at}
@@ -12,7 +12,7 @@ loop-rest-preserved-then-peak-value c =
     record {
       inside = omega arith;
       found =
-        take_run
+          take_run
           _ _ _ _ _ _ c.loop-rest.rest _ last.0 c.loop-rest.found
           c.loop-rest.invariant.found c.run_before-start.ensures.from (omega arith) c.loop-rest.invariant.inside (omega arith) last.1
           c.run_before-start.ensures.peak (omega arith);
@@ -22,7 +22,7 @@ pub loop-rest-preserved : goal.loop-rest-preserved
 loop-rest-preserved c = record {
   inside = omega arith;
   found =
-    pass_run
+      pass_run
       _ _ _ _ _ c.loop-rest.rest _ c.loop-rest.found
       c.loop-rest.invariant.found c.run_before-start.ensures.from (omega arith) c.run_before-start.ensures.peak (omega arith);
 }

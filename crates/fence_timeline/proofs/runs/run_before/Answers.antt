@@ -1,4 +1,4 @@
-use Rattle.std.proofs.Common.{ℕ, ◌≡◌, ◌≤◌, ◌<◌, ◌-◌, suc, slice_get, Some, arith}
+use Rattle.std.proofs.Common.{◌-◌, arith}
 use Rattle.fence_timeline.proofs.Peaks.{entry_got, run_peak, own_peak}
 use Rattle.fence_timeline.proofs.runs.run_before.Goals as goal
 

@@ -8,13 +8,13 @@ invariant_of-self-2 c =
     let it = c.self.inside in
     let now = c.in_ok-wait.ensures in
     armed_keeps
-      it.id it.base it.ending it.applied it.pending c.in_ok-wait.wait it.waits c.arm.new.self
-      c.self.invariant now.armed now.wait.0 (omega (arith, now.wait.2)) now.fresh
+    it.id it.base it.ending it.applied it.pending c.in_ok-wait.wait it.waits c.arm.new.self
+    c.self.invariant now.armed now.wait.0 (omega (arith, now.wait.2)) now.fresh
 
 pub returns-clause-list : goal.returns-clause-list
 returns-clause-list c =
     let it = c.self.inside in
     let now = c.in_ok-wait.ensures in
     is_list _ _ _ _ it.ending _ (armed_keeps
-      it.id it.base it.ending it.applied it.pending c.in_ok-wait.wait it.waits c.arm.new.self
-      c.self.invariant now.armed now.wait.0 (omega (arith, now.wait.2)) now.fresh)
+    it.id it.base it.ending it.applied it.pending c.in_ok-wait.wait it.waits c.arm.new.self
+    c.self.invariant now.armed now.wait.0 (omega (arith, now.wait.2)) now.fresh)

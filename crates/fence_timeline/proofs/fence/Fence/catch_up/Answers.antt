@@ -8,8 +8,8 @@ let_go-requires-clause-fits c =
     let it = c.self.inside in
     let now = c.apply_reached.ensures in
     let before = caught_before
-      it.id it.base it.ending it.applied c.apply_reached.new.applied it.pending c.apply_reached.new.pending it.waits c.args.counters.now
-      c.self.invariant now.applied now.pending now.room
+    it.id it.base it.ending it.applied c.apply_reached.new.applied it.pending c.apply_reached.new.pending it.waits c.args.counters.now
+    c.self.invariant now.applied now.pending now.room
     in
     omega (arith, before.fits)
 
@@ -18,8 +18,8 @@ let_go-requires-clause-in_order c =
     let it = c.self.inside in
     let now = c.apply_reached.ensures in
     let before = caught_before
-      it.id it.base it.ending it.applied c.apply_reached.new.applied it.pending c.apply_reached.new.pending it.waits c.args.counters.now
-      c.self.invariant now.applied now.pending now.room
+    it.id it.base it.ending it.applied c.apply_reached.new.applied it.pending c.apply_reached.new.pending it.waits c.args.counters.now
+    c.self.invariant now.applied now.pending now.room
     in
     before.in_order
 
@@ -28,33 +28,33 @@ invariant_of-self c =
     let it = c.self.inside in
     let now = c.apply_reached.ensures in
     let before = caught_before
-      it.id it.base it.ending it.applied c.apply_reached.new.applied it.pending c.apply_reached.new.pending it.waits c.args.counters.now
-      c.self.invariant now.applied now.pending now.room
+    it.id it.base it.ending it.applied c.apply_reached.new.applied it.pending c.apply_reached.new.pending it.waits c.args.counters.now
+    c.self.invariant now.applied now.pending now.room
     in
     kept_after
-      it.id it.base c.let_go.new.base it.ending c.apply_reached.new.applied c.let_go.new.applied c.apply_reached.new.pending it.waits
-      before c.let_go.ensures.base c.let_go.ensures.applied c.let_go.ensures.room
+    it.id it.base c.let_go.new.base it.ending c.apply_reached.new.applied c.let_go.new.applied c.apply_reached.new.pending it.waits
+    before c.let_go.ensures.base c.let_go.ensures.applied c.let_go.ensures.room
 
 pub returns-clause-state : goal.returns-clause-state
 returns-clause-state c =
     let it = c.self.inside in
     let now = c.apply_reached.ensures in
     let before = caught_before
-      it.id it.base it.ending it.applied c.apply_reached.new.applied it.pending c.apply_reached.new.pending it.waits c.args.counters.now
-      c.self.invariant now.applied now.pending now.room
+    it.id it.base it.ending it.applied c.apply_reached.new.applied it.pending c.apply_reached.new.pending it.waits c.args.counters.now
+    c.self.invariant now.applied now.pending now.room
     in
     rw (← c.self.view_is) (caught_same
-      it.id it.base c.let_go.new.base it.ending it.applied c.apply_reached.new.applied c.let_go.new.applied it.pending c.apply_reached.new.pending it.waits c.args.counters.now
-      before now.applied now.pending c.let_go.ensures.base c.let_go.ensures.applied)
+    it.id it.base c.let_go.new.base it.ending it.applied c.apply_reached.new.applied c.let_go.new.applied it.pending c.apply_reached.new.pending it.waits c.args.counters.now
+    before now.applied now.pending c.let_go.ensures.base c.let_go.ensures.applied)
 
 pub returns-clause-list : goal.returns-clause-list
 returns-clause-list c =
     let it = c.self.inside in
     let now = c.apply_reached.ensures in
     let before = caught_before
-      it.id it.base it.ending it.applied c.apply_reached.new.applied it.pending c.apply_reached.new.pending it.waits c.args.counters.now
-      c.self.invariant now.applied now.pending now.room
+    it.id it.base it.ending it.applied c.apply_reached.new.applied it.pending c.apply_reached.new.pending it.waits c.args.counters.now
+    c.self.invariant now.applied now.pending now.room
     in
     is_list _ _ _ _ it.ending _ (kept_after
-      it.id it.base c.let_go.new.base it.ending c.apply_reached.new.applied c.let_go.new.applied c.apply_reached.new.pending it.waits
-      before c.let_go.ensures.base c.let_go.ensures.applied c.let_go.ensures.room)
+    it.id it.base c.let_go.new.base it.ending c.apply_reached.new.applied c.let_go.new.applied c.apply_reached.new.pending it.waits
+    before c.let_go.ensures.base c.let_go.ensures.applied c.let_go.ensures.room)
