@@ -1,5 +1,5 @@
 -- The word of what is chosen is read as it.
-use Rattle.std.proofs.Common.{ℕ, ◌≡◌, Bool, true, false, List, [], ◌∷◌, Option, Some, None, refl, subst, if◌then◌else◌}
+use Rattle.std.proofs.Common.{ℕ, ◌≡◌, Bool, true, false, List, [], ◌∷◌, Option, Some, None, refl, subst, if◌then◌else◌, inl, inr, sym, ◌⊎◌}
 use Rattle.std.specs.List.{AllByRecursion}
 use Rattle.std.specs.Str.{bytes_eq}
 use Rattle.std.proofs.lemmas.Slice.Eq.{bytes_eq-Decides}
@@ -19,6 +19,8 @@ use Rattle.line_forms.specs.declared.choice.Version.TheVariants as version
 use Rattle.line_forms.specs.declared.choice.Choice.{Choice}
 use Rattle.line_forms.specs.declared.choice.Choices.{Choices}
 use Rattle.line_forms.specs.declared.choice.Choices.TheVariants as choices
+use Rattle.line_forms.specs.Says.{IsAmong, IsChoice}
+use Rattle.line_forms.proofs.SetsSay.{among_holds}
 use Rattle.line_forms.specs.Choices.{choice_text, choices_of, chosen, as_choice, type_in, home_in, layout_in, class_in, shared_in, visible_in, version_in, routine_in}
 
 -- what holds of each choice holds of what is chosen
@@ -131,3 +133,19 @@ as_own choices.Shared c = own_shared (shared_in c)
 as_own choices.Visible c = own_visible (visible_in c)
 as_own choices.Version c = own_version (version_in c)
 as_own choices.Routine c = own_routine (routine_in c)
+
+-- a word that chooses is the word of one of the choices, and the other way round
+chosen_among : (cs : List Choice) (w : List ℕ) (c : Choice) → chosen cs w ≡ Some c → IsAmong c cs
+unfolding chosen
+chosen_among [] w c e = cc
+chosen_among (x ∷ cs) w c e = by_test (bytes_eq w (choice_text x)) (λ found. chosen_among cs w c found) e
+  where
+    by_test : (t : Bool) → (chosen cs w ≡ Some c → IsAmong c cs) → (if t then Some x else chosen cs w) ≡ Some c → IsAmong c (x ∷ cs)
+    by_test true more e = let same : x ≡ c = cc in inl (sym same)
+    by_test false more e = inr (more e)
+
+pub choice_says : (k : Choices) (w : List ℕ) (c : Choice) → chosen (choices_of k) w ≡ Some c → IsChoice (choices_of k) c w
+choice_says k w c e = (chosen_text (choices_of k) w c e, chosen_among (choices_of k) w c e)
+
+pub choice_said : (k : Choices) (w : List ℕ) (c : Choice) → IsChoice (choices_of k) c w → chosen (choices_of k) w ≡ Some c
+choice_said k w c h = rw (h.0) (among_holds (IsOwn k) (choices_of k) c (own k) h.1).reads

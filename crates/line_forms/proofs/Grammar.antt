@@ -27,6 +27,8 @@ use Rattle.line_forms.specs.Reading.{Naming, or_form, all_text, number_of, word_
 use Rattle.line_forms.specs.Says.{IsDecimal, IsHexadecimal, IsAllOr, Says, SayAll, SayEach, SayRest, SaysLine, IsNoDecimal, IsNoHexadecimal, IsWrong, IsSomeWrong, IsEachWrong, IsRestWrong, IsLineWrong, IsFirstCause}
 use Rattle.line_forms.specs.Sets.{rows_of, set_from}
 use Rattle.line_forms.proofs.Results.{made_of, two_read, failed, earlier_is, earlier_low, Lower, left_fails, right_fails, wrapped_low, either_fails, first_is}
+use Rattle.line_forms.proofs.ChoicesBack.{choice_says, choice_said}
+use Rattle.line_forms.proofs.SetsSay.{set_says, set_said, set_form}
 use Rattle.line_forms.proofs.WordsBack.{number_back}
 
 -- one decimal digit
@@ -168,6 +170,15 @@ or_form_err : {A : Type 0} (found : Option A) (c : Cause) → or_form found ≡ 
 or_form_err None c e = (cc, refl)
 or_form_err (Some y) c e = cc
 
+-- what is there is not wanting
+clash : {A : Type 0} (found : Result A Cause) (x : A) (c : Cause) → found ≡ Ok x → found ≡ Err c → ⊥
+clash (Ok y) x c e f = cc
+clash (Err d) x c e f = cc
+
+some_none : {A : Type 0} (found : Option A) (x : A) → found ≡ Some x → found ≡ None → ⊥
+some_none None x e f = cc
+some_none (Some y) x e f = cc
+
 pub not_all : (w : List ℕ) → bytes_eq w all_text ≡ false → w ≢ all_text
 not_all w is h = let no : false ≡ true = sym is ∙ ap (λ x. bytes_eq x all_text) h in not_both no
 
@@ -216,10 +227,10 @@ module _ (n : Naming) where
   part_says Number w v e = let m = made_of value.Number (number_of w) v e in (m.from, number_says w m.from m.read, sym m.makes)
   part_says DataWord w v e = let m = made_of value.Word (word_of w) v e in (m.from, hex_says w m.from m.read, sym m.makes)
   part_says FlagWord w v e = let m = made_of value.Word (word_of w) v e in (m.from, hex_says w m.from m.read, sym m.makes)
-  part_says (Set s) w v e = let m = made_of value.Set (set_from (rows_of s) w) v e in (m.from, m.read, sym m.makes)
+  part_says (Set s) w v e = let m = made_of value.Set (set_from (rows_of s) w) v e in (m.from, set_says s w m.from m.read, sym m.makes)
   part_says (Choice c) w v e =
       let m = made_of value.Chosen (or_form (chosen (choices_of c) w)) v e in
-      (m.from, or_form_ok (chosen (choices_of c) w) m.from m.read, sym m.makes)
+      (m.from, choice_says c w m.from (or_form_ok (chosen (choices_of c) w) m.from m.read), sym m.makes)
   part_says (AllOr k) w v e = all_or_says value.AllOr (n.number k) w (λ i u. n.number k u ≡ Ok i) (λ i h. h) v e
   part_says AllOrNumber w v e = all_or_says value.AllOrNumber number_of w IsDecimal (number_says w) v e
 
@@ -234,8 +245,8 @@ module _ (n : Naming) where
   part_said Number w v h = rw (h.1.1, number_back h.0 h.1.0, h.2) refl
   part_said DataWord w v h = rw (hex_said w h.0 h.1, h.2) refl
   part_said FlagWord w v h = rw (hex_said w h.0 h.1, h.2) refl
-  part_said (Set s) w v h = rw (h.1, h.2) refl
-  part_said (Choice c) w v h = rw (h.1, h.2) refl
+  part_said (Set s) w v h = rw (set_said s w h.0 h.1, h.2) refl
+  part_said (Choice c) w v h = rw (choice_said c w h.0 h.1, h.2) refl
   part_said (AllOr k) w v h = all_or_said value.AllOr (n.number k) w (λ i u. n.number k u ≡ Ok i) (λ i one. one) v h
   part_said AllOrNumber w v h = all_or_said value.AllOrNumber number_of w IsDecimal (λ i one. rw (one.1) (number_back i one.0)) v h
 
@@ -247,8 +258,12 @@ module _ (n : Naming) where
   part_wrong Number w c e = number_wrong w c (failed value.Number (number_of w) c e)
   part_wrong DataWord w c e = hex_wrong w c (failed value.Word (word_of w) c e)
   part_wrong FlagWord w c e = hex_wrong w c (failed value.Word (word_of w) c e)
-  part_wrong (Set s) w c e = failed value.Set (set_from (rows_of s) w) c e
-  part_wrong (Choice k) w c e = or_form_err (chosen (choices_of k) w) c (failed value.Chosen (or_form (chosen (choices_of k) w)) c e)
+  part_wrong (Set s) w c e =
+      let none = failed value.Set (set_from (rows_of s) w) c e in
+      (set_form s w c none, λ i h. clash (set_from (rows_of s) w) i c (set_said s w i h) none)
+  part_wrong (Choice k) w c e =
+      let none = or_form_err (chosen (choices_of k) w) c (failed value.Chosen (or_form (chosen (choices_of k) w)) c e) in
+      (none.0, λ i h. some_none (chosen (choices_of k) w) i (choice_said k w i h) none.1)
   part_wrong (AllOr k) w c e = all_or_wrong value.AllOr (n.number k) w c e
   part_wrong AllOrNumber w c e = let both = all_or_wrong value.AllOrNumber number_of w c e in (both.0, number_wrong w c both.1)
 
@@ -265,8 +280,16 @@ module _ (n : Naming) where
   wrong_part Number w c h = rw (wrong_number w c h) refl
   wrong_part DataWord w c h = rw (wrong_hex w c h) refl
   wrong_part FlagWord w c h = rw (wrong_hex w c h) refl
-  wrong_part (Set s) w c h = rw h refl
-  wrong_part (Choice k) w c h = rw (h.1, h.0) refl
+  wrong_part (Set s) w c h = ap (wrapped value.Set) (by_set (set_from (rows_of s) w) refl)
+    where
+      by_set : (found : Result ℕ Cause) → set_from (rows_of s) w ≡ found → found ≡ Err c
+      by_set (Ok i) is = absurd (h.1 i (set_says s w i is))
+      by_set (Err d) is = ap Err (set_form s w d is ∙ sym h.0)
+  wrong_part (Choice k) w c h = ap (λ o. wrapped value.Chosen (or_form o)) (by_choice (chosen (choices_of k) w) refl) ∙ ap Err (sym h.0)
+    where
+      by_choice : (found : Option Chosen) → chosen (choices_of k) w ≡ found → found ≡ None
+      by_choice (Some i) is = absurd (h.1 i (choice_says k w i is))
+      by_choice None is = refl
   wrong_part (AllOr k) w c h = one_of value.AllOr (n.number k) w (Err c) h.0 (rw (h.1) refl)
   wrong_part AllOrNumber w c h = one_of value.AllOrNumber number_of w (Err c) h.0 (rw (wrong_number w c h.1) refl)
 

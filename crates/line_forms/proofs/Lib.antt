@@ -4,6 +4,7 @@ pub mod Apart
 pub mod Results
 pub mod Grammar
 pub mod SetsBack
+pub mod SetsSay
 pub mod ChoicesBack
 pub mod Good
 pub mod Tests

@@ -79,7 +79,7 @@ pub record IsSet (some : Bool) (s : ℕ) : Type 0 where
   pub small : s < 2 ^ 7
   pub filled : some ≡ true → 0 < s
 
-is_some_list : {A : Type 0} → List A → Bool
+unfoldable pub is_some_list : {A : Type 0} → List A → Bool
 is_some_list [] = false
 is_some_list (x ∷ xs) = true
 
@@ -105,10 +105,10 @@ unfolding is_some_list
 some_long [] k e = absurd (omega (arith, e))
 some_long (x ∷ xs) k e = refl
 
-some_pieces : (w : List ℕ) → is_some_list (pieces_at 124 w) ≡ true
+pub some_pieces : (w : List ℕ) → is_some_list (pieces_at 124 w) ≡ true
 some_pieces w = some_long (pieces_at 124 w) _ (length-slice_split (λ b. b == 124) w)
 
-bits : (k : SetOf) → AllByRecursion (λ (row : List ℕ × ℕ). IsBit row.1) (rows_of k)
+pub bits : (k : SetOf) → AllByRecursion (λ (row : List ℕ × ℕ). IsBit row.1) (rows_of k)
 bits set.Sync = search rules
 bits set.Access = search rules
 bits set.State = search rules

@@ -279,7 +279,7 @@ module _ (n : Naming) (known : Known) (named : AreNamed n known) where
   part_kept DataWord w v kept h = cc
   part_kept FlagWord w v kept h = cc
   part_kept (Set s) w v kept h = cc
-  part_kept (Choice c) w v kept h = rw (h.2) (sym (chosen_text (choices_of c) w h.0 h.1))
+  part_kept (Choice c) w v kept h = rw (h.2) (sym h.1.0)
   part_kept (AllOr k) w v kept (inl h) = rw (h.1) (sym h.0)
   part_kept (AllOr k) w v kept (inr h) = rw (h.1.2) (named.things k w h.1.0 h.1.1)
   part_kept AllOrNumber w v kept (inl h) = rw (h.1) (sym h.0)

@@ -13,10 +13,10 @@ use Rattle.line_forms.specs.declared.part.PartValue.TheVariants as value
 use Rattle.line_forms.specs.declared.part.Rest.{Rest}
 use Rattle.line_forms.specs.declared.part.Rest.TheVariants.{Nothing, Names, Words}
 use Rattle.line_forms.specs.Causes.{rank_of}
-use Rattle.line_forms.specs.Choices.{choice_text, choices_of, chosen}
+use Rattle.line_forms.specs.Choices.{choice_text, choices_of}
 use Rattle.line_forms.specs.Parts.{Place, Word, Name, NewName, Number, DataWord, FlagWord, Set, Choice, AllOr, AllOrNumber, Row}
 use Rattle.line_forms.specs.Reading.{Naming, all_text}
-use Rattle.line_forms.specs.Sets.{rows_of, set_from}
+use Rattle.line_forms.specs.Sets.{rows_of}
 
 -- decimal digits of a number below 2^64, without a leading zero
 abbrev pub IsDecimal : ℕ → List ℕ → Type 0
@@ -26,9 +26,32 @@ IsDecimal i w = (i < 2 ^ 64) × (w ≡ decimal i)
 abbrev pub IsHexadecimal : ℕ → List ℕ → Type 0
 IsHexadecimal i w = (is_data_word w ≡ true) × (digits_value 16 w ≡ i)
 
--- one of the words of a choice
+-- one of some
+abbrev pub IsAmong : {A : Type 0} → A → List A → Type 0
+IsAmong x [] = ⊥
+IsAmong x (y ∷ ys) = (x ≡ y) ⊎ IsAmong x ys
+
+-- the word of one of the choices
 abbrev pub IsChoice : List Chosen → Chosen → List ℕ → Type 0
-IsChoice cs c w = chosen cs w ≡ Some c
+IsChoice cs c w = (w ≡ choice_text c) × IsAmong c cs
+
+-- names of a table, none of them twice
+abbrev pub AreNamesOf : List (List ℕ × ℕ) → List (List ℕ × ℕ) → Type 0
+AreNamesOf rows [] = Unit {0}
+AreNamesOf rows (r ∷ rs) = IsAmong r rows × (IsAmong r rs → ⊥) × AreNamesOf rows rs
+
+-- the set of names
+abbrev pub bits_of : List (List ℕ × ℕ) → ℕ
+bits_of [] = 0
+bits_of (r ∷ rs) = bit_or (bits_of rs) r.1
+
+-- names of a table, one or more and each at most once, with bars between; the set has the bit of each
+pub record IsSetOf (rows : List (List ℕ × ℕ)) (s : ℕ) (w : List ℕ) : Type 0 where
+  pub names : List (List ℕ × ℕ)
+  pub some : names ≢ []
+  pub are : AreNamesOf rows names
+  pub text : w ≡ join_with_byte 124 (map (λ r. r.0) names)
+  pub bits : s ≡ bits_of names
 
 -- `all`, or else a word that says one
 abbrev pub IsAllOr : {A : Type 0} → (Option A → PartValue) → (A → List ℕ → Type 0) → PartValue → List ℕ → Type 0
@@ -42,7 +65,7 @@ Says n NewName v w = (m : List ℕ) × (n.fresh w ≡ Ok m) × (v ≡ value.NewN
 Says n Number v w = (i : ℕ) × IsDecimal i w × (v ≡ value.Number i)
 Says n DataWord v w = (i : ℕ) × IsHexadecimal i w × (v ≡ value.Word i)
 Says n FlagWord v w = (i : ℕ) × IsHexadecimal i w × (v ≡ value.Word i)
-Says n (Set s) v w = (i : ℕ) × (set_from (rows_of s) w ≡ Ok i) × (v ≡ value.Set i)
+Says n (Set s) v w = (i : ℕ) × IsSetOf (rows_of s) i w × (v ≡ value.Set i)
 Says n (Choice c) v w = (i : Chosen) × IsChoice (choices_of c) i w × (v ≡ value.Chosen i)
 Says n (AllOr k) v w = IsAllOr value.AllOr (λ i u. n.number k u ≡ Ok i) v w
 Says n AllOrNumber v w = IsAllOr value.AllOrNumber IsDecimal v w
@@ -89,8 +112,8 @@ IsWrong n NewName w c = n.fresh w ≡ Err c
 IsWrong n Number w c = IsNoDecimal w c
 IsWrong n DataWord w c = IsNoHexadecimal w c
 IsWrong n FlagWord w c = IsNoHexadecimal w c
-IsWrong n (Set s) w c = set_from (rows_of s) w ≡ Err c
-IsWrong n (Choice k) w c = (c ≡ cause.Form) × (chosen (choices_of k) w ≡ None)
+IsWrong n (Set s) w c = (c ≡ cause.Form) × ((i : ℕ) → IsSetOf (rows_of s) i w → ⊥)
+IsWrong n (Choice k) w c = (c ≡ cause.Form) × ((i : Chosen) → IsChoice (choices_of k) i w → ⊥)
 IsWrong n (AllOr k) w c = (w ≢ all_text) × (n.number k w ≡ Err c)
 IsWrong n AllOrNumber w c = (w ≢ all_text) × IsNoDecimal w c
 

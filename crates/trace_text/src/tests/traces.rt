@@ -16,7 +16,7 @@ pub fn refusal(alloc: Global, text: &str) -> Result<Option<(u64, Cause)>, Memory
 }
 
 /// Texts that are refused before their lines have a form, with the line and the cause.
-fn refused_lines() -> [(&'static str, u64, Cause); 16] {
+fn refused_lines() -> [(&'static str, u64, Cause); 20] {
     [
         ("", 1, Cause::Cut),
         ("d3dtrace 1\n", 2, Cause::Cut),
@@ -38,6 +38,14 @@ fn refused_lines() -> [(&'static str, u64, Cause); 16] {
             Cause::Later,
         ),
         ("d3dtrace 1\nthread t\nthread x\nend\n", 3, Cause::Later),
+        ("d3dtrace 1\nthread t\nthread t\nend\n", 3, Cause::Later),
+        (
+            "d3dtrace 1\nqueue q direct\nqueue r foo\nend\n",
+            3,
+            Cause::Form,
+        ),
+        ("d3dtrace 1\nthread t\nthread 7\nend\n", 3, Cause::Form),
+        ("d3dtrace 1\nthread t\nthread\nend\n", 3, Cause::Form),
     ]
 }
 
