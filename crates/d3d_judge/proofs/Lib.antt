@@ -11,3 +11,4 @@ pub mod Later
 pub mod Judging
 pub mod Replies
 pub mod Tables
+pub mod Thresholds

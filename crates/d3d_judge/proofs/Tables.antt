@@ -9,7 +9,7 @@ use Rattle.word_trees.specs.Numbers.{within, most, raised}
 use Rattle.word_trees.proofs.Numbers.{length_raised}
 use Rattle.d3d_judge.specs.Commands.{Range}
 use Rattle.d3d_judge.specs.Tables.{number_of, is_of_queue, is_of_thread, conflicts_in, table, shares, unknown_in, table_unknown, AllInside, any_below, OfQueues, OfThreads, queue_unknown, thread_unknown}
-use Rattle.d3d_judge.specs.Touches.{Touch, conflict, meets, overlaps, is_operation, breaks_one, breaks_ten}
+use Rattle.d3d_judge.specs.Touches.{Touch, conflict, meets, is_operation, breaks_one, breaks_ten}
 
 -- both ranges have the place
 both : (k a b c d : ℕ) → (within k a b && within k c d) ≡ (within k (max a c) (min b d))

@@ -11,3 +11,4 @@ pub mod Ahead
 pub mod Laws
 pub mod Rows
 pub mod Tables
+pub mod Thresholds

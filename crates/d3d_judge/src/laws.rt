@@ -2,6 +2,7 @@
 
 ghost use Rattle.d3d_judge.specs.Laws.{StaySound, ClocksAreSound, LoadsAreFresh, StoresAreFresh, KnowAhead};
 ghost use Rattle.d3d_judge.specs.Laws.{CleanExecutesKnow, CleanClocksAre, MadeIsAll, TouchedAreAll, BrokenStays, RepliesPlayNoPart};
+ghost use Rattle.d3d_judge.specs.Thresholds.{CoversGrow, ThresholdsTell, ThresholdsAreBehind};
 ghost use Rattle.d3d_judge.specs.Tables.{TablesTell, QueueTablesTell, ThreadTablesTell};
 ghost use Rattle.d3d_judge.specs.Laws.{OfScopes, BreakNothing, ScopesCover, ChangesReach, AccessesAreAllowed, OpenedAreAll, CommandsApart, PlacesCount, LaterCovers};
 
@@ -112,4 +113,13 @@ pub fn tables_tell_who_is_unknown()
     ensures of_any { TablesTell }
     ensures of_queues { QueueTablesTell }
     ensures of_threads { ThreadTablesTell }
+{}
+
+/// The covered pairs of an access are a set that grows by the two cases of cover alone, and one threshold for each
+/// pair tells these sets of all accesses of one own pair.
+#[tactic(none)]
+pub fn thresholds_tell_what_is_covered()
+    ensures sets { CoversGrow }
+    ensures thresholds { ThresholdsTell }
+    ensures behind { ThresholdsAreBehind }
 {}
