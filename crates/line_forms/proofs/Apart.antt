@@ -8,7 +8,7 @@ use Rattle.line_forms.specs.declared.part.PartValue.{PartValue}
 use Rattle.line_forms.specs.declared.part.Rest.{Rest}
 use Rattle.line_forms.specs.declared.part.Rest.TheVariants.{Nothing, Names, Words}
 use Rattle.line_forms.specs.Finding.{may_stand, may_end, fits, form_for}
-use Rattle.line_forms.specs.Laws.{AllGood, is_other, differ, is_nothing, apart, are_apart, all_apart}
+use Rattle.line_forms.specs.Laws.{AllGood, is_other, differ, apart, are_apart, all_apart}
 use Rattle.line_forms.specs.Parts.{Place, Word, Name, NewName, Number, DataWord, FlagWord, Set, Choice, AllOr, AllOrNumber, Row}
 use Rattle.line_forms.specs.Printing.{Known, part_text, part_texts, rest_texts}
 use Rattle.line_forms.specs.Reading.{Naming}

@@ -13,15 +13,15 @@ use Rattle.line_forms.specs.declared.part.Rest.TheVariants.{Nothing, Names, Word
 use Rattle.line_forms.specs.Causes.{wrapped, two_of}
 use Rattle.line_forms.specs.Choices.{choices_of, chosen}
 use Rattle.line_forms.specs.Laws.{shaped, shaped_from, shaped_rest, shaped_line, IsGood, AllGood, IsGoodLine, AreNamed, ReadsAgain, PrintsBack}
-use Rattle.line_forms.specs.Lines.{hex_word, flag_word}
+use Rattle.line_forms.specs.Lines.{hex_word}
 use Rattle.line_forms.specs.Parts.{Place, Word, Name, NewName, Number, DataWord, FlagWord, Set, Choice, AllOr, AllOrNumber, Row}
-use Rattle.line_forms.specs.Printing.{Known, part_text, part_texts, rest_texts, line_words, all_or_text}
+use Rattle.line_forms.specs.Printing.{Known, part_texts, rest_texts, line_words}
 use Rattle.line_forms.specs.Reading.{Naming, or_form, all_text, number_of, word_of, stands_for, all_or_of, read_part, read_parts, each_of, read_rest, read_row}
 use Rattle.line_forms.specs.Sets.{rows_of, set_from}
 use Rattle.line_forms.specs.Values.{value_at}
 use Rattle.line_forms.proofs.Apart.{found_in}
 use Rattle.line_forms.proofs.ChoicesBack.{chosen_own}
-use Rattle.line_forms.proofs.Grammar.{or_form_ok, not_all, number_says, ends_if}
+use Rattle.line_forms.proofs.Grammar.{or_form_ok, number_says, ends_if}
 use Rattle.line_forms.proofs.Results.{made_of, two_read}
 use Rattle.line_forms.proofs.SetsBack.{set_again}
 use Rattle.line_forms.proofs.WordsBack.{number_back, word_back, word_small, flag_back}

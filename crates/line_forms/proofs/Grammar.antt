@@ -4,7 +4,7 @@ use Rattle.std.specs.Char.{is_ascii_digit, digit_value}
 use Rattle.std.specs.List.{list_all}
 use Rattle.std.specs.Str.{bytes_eq}
 use Rattle.std.specs.Str.Parse.{digits_value, AllDigits}
-use Rattle.std.proofs.lemmas.Bool.{and_parts, and_from, ltb-true, leb-true, le-leb}
+use Rattle.std.proofs.lemmas.Bool.{and_parts, ltb-true, leb-true, le-leb}
 use Rattle.std.proofs.lemmas.Bool.Decides.{nat_tests}
 use Rattle.std.proofs.lemmas.Fmt.{decimal-digits_value}
 use Rattle.std.proofs.lemmas.Slice.Eq.{bytes_eq-Decides}
@@ -19,14 +19,14 @@ use Rattle.line_forms.specs.declared.part.PartValue.{PartValue}
 use Rattle.line_forms.specs.declared.part.PartValue.TheVariants as value
 use Rattle.line_forms.specs.declared.part.Rest.{Rest}
 use Rattle.line_forms.specs.declared.part.Rest.TheVariants.{Nothing, Names, Words}
-use Rattle.line_forms.specs.Causes.{rank_of, earlier_of, wrapped, two_of}
+use Rattle.line_forms.specs.Causes.{rank_of, wrapped, two_of}
 use Rattle.line_forms.specs.Choices.{choices_of, chosen}
 use Rattle.line_forms.specs.Laws.{IsGrammar}
 use Rattle.line_forms.specs.Parts.{Place, Word, Name, NewName, Number, DataWord, FlagWord, Set, Choice, AllOr, AllOrNumber, Row}
 use Rattle.line_forms.specs.Reading.{Naming, or_form, all_text, number_of, word_of, stands_for, all_or_of, read_part, read_parts, each_of, read_rest, read_row}
 use Rattle.line_forms.specs.Says.{IsDecimal, IsHexadecimal, IsAllOr, Says, SayAll, SayEach, SayRest, SaysLine, IsNoDecimal, IsNoHexadecimal, IsWrong, IsSomeWrong, IsEachWrong, IsRestWrong, IsLineWrong, IsFirstCause}
 use Rattle.line_forms.specs.Sets.{rows_of, set_from}
-use Rattle.line_forms.proofs.Results.{made_of, two_read, failed, earlier_is, earlier_low, Lower, left_fails, right_fails, wrapped_low, either_fails, first_is}
+use Rattle.line_forms.proofs.Results.{made_of, two_read, failed, Lower, left_fails, right_fails, wrapped_low, either_fails, first_is}
 use Rattle.line_forms.proofs.ChoicesBack.{choice_says, choice_said}
 use Rattle.line_forms.proofs.SetsSay.{set_says, set_said, set_form}
 use Rattle.line_forms.proofs.WordsBack.{number_back}

@@ -1,13 +1,12 @@
 -- Printed lines: their words are plain, and they are short.
-use Rattle.std.proofs.Common.{ℕ, zero, suc, ◌≡◌, ◌≢◌, ◌∙◌, ◌+◌, ◌*◌, ◌-◌, ◌<◌, ◌≤◌, ◌^◌, ◌&&◌, ◌||◌, ◌⊎◌, inl, inr, nat_le, nat_lt, Bool, true, false, List, [], ◌∷◌, ◌++◌, length, map, drop, decimal, Option, None, Some, Ok, Err, Result, refl, sym, ap, subst, arith, lit≤, if◌then◌else◌}
-use Rattle.std.specs.List.{list_all, AllByRecursion}
+use Rattle.std.proofs.Common.{ℕ, suc, ◌≡◌, ◌≢◌, ◌∙◌, ◌+◌, ◌*◌, ◌-◌, ◌<◌, ◌≤◌, ◌^◌, ◌&&◌, ◌||◌, ◌⊎◌, inl, inr, nat_le, nat_lt, Bool, true, false, List, [], ◌∷◌, ◌++◌, length, map, drop, None, Some, Ok, Err, refl, sym, ap, subst, arith, lit≤, if◌then◌else◌}
+use Rattle.std.specs.List.{list_all}
 use Rattle.std.specs.Str.{bytes_eq}
 use Rattle.std.specs.Str.Parse.{digits_value}
-use Rattle.std.proofs.lemmas.Bool.{and_parts, and_from, leb-true, or_cases}
+use Rattle.std.proofs.lemmas.Bool.{and_parts, leb-true, or_cases}
 use Rattle.std.proofs.lemmas.Fmt.{length-decimal-le}
 use Rattle.trace_words.specs.Words.{is_name, is_number, is_hex_digit, is_data_word}
 use Rattle.trace_words.proofs.Digits.{number_digits}
-use Rattle.line_forms.specs.declared.cause.Cause.{Cause}
 use Rattle.line_forms.specs.declared.cause.Cause.TheVariants as cause
 use Rattle.line_forms.specs.declared.choice.Choice.{Choice as Chosen}
 use Rattle.line_forms.specs.declared.choice.Choices.{Choices}
@@ -20,19 +19,19 @@ use Rattle.line_forms.specs.declared.part.Rest.{Rest}
 use Rattle.line_forms.specs.declared.part.Rest.TheVariants.{Nothing, Names, Words}
 use Rattle.line_forms.specs.declared.sets.SetOf.{SetOf}
 use Rattle.line_forms.specs.declared.sets.SetOf.TheVariants as set
-use Rattle.line_forms.specs.Causes.{wrapped, two_of}
+use Rattle.line_forms.specs.Causes.{two_of}
 use Rattle.line_forms.specs.Choices.{choices_of, chosen, choice_text}
-use Rattle.line_forms.specs.Laws.{IsGood, AllGood, IsGoodLine, AreNamed}
+use Rattle.line_forms.specs.Laws.{AllGood, IsGoodLine, AreNamed}
 use Rattle.line_forms.specs.Lines.{hex_word, hex_from}
 use Rattle.line_forms.specs.Parts.{Place, Word, Name, NewName, Number, DataWord, FlagWord, Set, Choice, AllOr, AllOrNumber, Row}
 use Rattle.line_forms.specs.Printing.{Known, part_text, part_texts, rest_texts, line_words}
-use Rattle.line_forms.specs.Reading.{Naming, or_form, all_text, number_of, word_of, all_or_of, read_part, read_parts, each_of, read_rest, read_row}
-use Rattle.line_forms.specs.Says.{IsDecimal, IsHexadecimal, Says, SayAll, SayEach, SayRest, SaysLine}
+use Rattle.line_forms.specs.Reading.{Naming, or_form, all_text, number_of, word_of, read_part, each_of, read_rest, read_row}
+use Rattle.line_forms.specs.Says.{IsHexadecimal, Says, SayAll, SayEach, SayRest}
 use Rattle.line_forms.specs.Sets.{rows_of, set_from, set_text}
 use Rattle.line_forms.proofs.ChoicesBack.{chosen_text}
 use Rattle.line_forms.proofs.Good.{reads_again}
-use Rattle.line_forms.proofs.Grammar.{grammar, number_says, hex_says, part_says, all_or_says, or_form_ok, rest_say, or_form_ok}
-use Rattle.line_forms.proofs.PlainWords.{is_plain_word, IsPlainWord, ArePlain, plain_word, name_plain, digits_plain, hex_plain, line_of, long, line_long, long_append}
+use Rattle.line_forms.proofs.Grammar.{grammar, number_says, hex_says, all_or_says, or_form_ok, or_form_ok}
+use Rattle.line_forms.proofs.PlainWords.{is_plain_word, ArePlain, plain_word, name_plain, digits_plain, hex_plain, line_of, long, line_long, long_append}
 use Rattle.line_forms.proofs.Results.{made_of, two_read}
 use Rattle.line_forms.proofs.SetsBack.{below, each_below, set_fits}
 use Rattle.line_forms.proofs.WordsBack.{length_hex, all_hex}

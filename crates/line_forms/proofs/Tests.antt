@@ -1,15 +1,13 @@
 -- What is read passes the tests of its parts, and what passes them is read of its own words.
-use Rattle.std.proofs.Common.{ℕ, zero, suc, ◌≡◌, ◌≢◌, ◌∙◌, ◌+◌, ◌<◌, ◌≤◌, ◌^◌, ◌&&◌, ◌⊎◌, inl, inr, not, nat_le, nat_lt, Bool, true, false, List, [], ◌∷◌, ◌++◌, length, map, drop, decimal, Option, None, Some, Ok, Err, Result, refl, sym, ap, subst, add-one, arith}
+use Rattle.std.proofs.Common.{ℕ, suc, ◌≡◌, ◌≢◌, ◌∙◌, ◌+◌, ◌<◌, ◌^◌, ◌&&◌, ◌⊎◌, inl, inr, not, nat_le, nat_lt, Bool, true, false, List, [], ◌∷◌, ◌++◌, length, map, drop, decimal, Option, None, Some, Ok, Err, refl, sym, ap, subst, add-one, arith}
 use Rattle.std.specs.List.{list_all}
 use Rattle.std.specs.Str.{bytes_eq}
-use Rattle.std.proofs.lemmas.Bool.{and_parts, and_from, lt-ltb, le-leb, ltb-true, leb-true}
+use Rattle.std.proofs.lemmas.Bool.{and_parts, and_from, lt-ltb, le-leb, ltb-true}
 use Rattle.std.proofs.lemmas.List.{length-map}
 use Rattle.std.proofs.lemmas.List.Folds.{list_all-append}
 use Rattle.std.proofs.lemmas.Slice.Eq.{bytes_eq-Decides}
 use Rattle.trace_words.specs.Words.{is_number}
-use Rattle.line_forms.specs.declared.cause.Cause.{Cause}
 use Rattle.line_forms.specs.declared.cause.Cause.TheVariants as cause
-use Rattle.line_forms.specs.declared.choice.Choice.{Choice as Chosen}
 use Rattle.line_forms.specs.declared.form.Line.{Line}
 use Rattle.line_forms.specs.declared.kind.Kind.{Kind}
 use Rattle.line_forms.specs.declared.part.PartValue.{PartValue}
@@ -17,13 +15,13 @@ use Rattle.line_forms.specs.declared.part.PartValue.TheVariants as value
 use Rattle.line_forms.specs.declared.part.Rest.{Rest}
 use Rattle.line_forms.specs.declared.part.Rest.TheVariants.{Nothing, Names, Words}
 use Rattle.line_forms.specs.Causes.{wrapped, two_of}
-use Rattle.line_forms.specs.Choices.{choices_of, chosen, choice_text, as_choice}
-use Rattle.line_forms.specs.Laws.{shaped, shaped_from, shaped_rest, shaped_line, IsGood, AllGood, IsGoodLine, AreNamed}
+use Rattle.line_forms.specs.Choices.{choices_of, chosen, choice_text}
+use Rattle.line_forms.specs.Laws.{shaped, shaped_from, shaped_rest, shaped_line, AllGood, IsGoodLine, AreNamed}
 use Rattle.line_forms.specs.Lines.{hex_word}
 use Rattle.line_forms.specs.Parts.{Place, Word, Name, NewName, Number, DataWord, FlagWord, Set, Choice, AllOr, AllOrNumber, Row}
 use Rattle.line_forms.specs.Printing.{Known, part_text, rest_texts}
 use Rattle.line_forms.specs.Reading.{Naming, or_form, all_text, number_of, word_of, all_or_of, stands_for, read_part, read_parts, each_of, read_rest, read_row}
-use Rattle.line_forms.specs.Says.{IsDecimal, IsHexadecimal, SayEach, SayRest, SaysLine}
+use Rattle.line_forms.specs.Says.{IsDecimal, IsHexadecimal, SayEach}
 use Rattle.line_forms.specs.Sets.{rows_of, set_from}
 use Rattle.line_forms.specs.Sound.{all_of, of_some, sound_tests, sound_rest, named_tests, named_rest, all_tests, is_sound_line, is_named_line}
 use Rattle.line_forms.specs.Values.{id_in, name_in, number_in, word_in, set_in, choice_in, all_or_in, all_or_number_in, value_at}

@@ -1,7 +1,7 @@
 -- A printed word is read as what it was printed from.
-use Rattle.std.proofs.Common.{ℕ, zero, suc, ◌≡◌, ◌∙◌, ◌++◌, ◌<◌, ◌==◌, not, nat_lt, get_or, decimal, subst, lit≤, ◌/◌, ◌%◌, ◌^◌, ◌&&◌, nat_le, Bool, true, false, List, [], ◌∷◌, length, map, Some, None, Ok, Err, refl, ap, arith, length-append, if◌then◌else◌, ◌≤◌}
+use Rattle.std.proofs.Common.{ℕ, zero, suc, ◌≡◌, ◌∙◌, ◌++◌, ◌<◌, ◌==◌, not, nat_lt, get_or, decimal, subst, lit≤, ◌/◌, ◌%◌, ◌^◌, ◌&&◌, nat_le, Bool, true, false, List, [], ◌∷◌, length, Some, None, Ok, Err, refl, ap, arith, length-append, if◌then◌else◌, ◌≤◌}
 use Rattle.std.specs.Char.{digit_char, is_ascii_digit, digit_value}
-use Rattle.std.specs.List.{list_all, AllByRecursion}
+use Rattle.std.specs.List.{list_all}
 use Rattle.std.proofs.lemmas.List.Folds.{list_all-append}
 use Rattle.std.specs.Str.Parse.{digits_value, AllDigits}
 use Rattle.std.proofs.lemmas.Bool.{and_parts, and_from, le-leb, lt-ltb, leb-true, ltb-true}
@@ -13,8 +13,7 @@ use Rattle.std.proofs.lemmas.Int.Digits.{digits_value_push}
 use Rattle.std.proofs.lemmas.Str.{digit_value-digit_char}
 use Rattle.trace_words.specs.Words.{is_number, is_hex_digit, is_data_word, data_word_of}
 use Rattle.line_forms.specs.declared.cause.Cause.TheVariants as cause
-use Rattle.line_forms.specs.Causes.{two_of}
-use Rattle.line_forms.specs.Reading.{or_form, number_of, word_of, each_of}
+use Rattle.line_forms.specs.Reading.{or_form, number_of, word_of}
 use Rattle.line_forms.specs.Lines.{hex_from, hex_word, without_zeros, flag_word}
 
 -- one more item that passes

@@ -1,9 +1,8 @@
 -- What the words of a line say, and what is wrong with them: the grammar in its own words.
-use Rattle.std.specs.Prelude.{ℕ, ◌≡◌, ◌≢◌, ◌<◌, ◌≤◌, ◌^◌, ◌⊎◌, List, [], ◌∷◌, length, drop, map, decimal, bit_or, Bool, true, false, Option, Some, None, Result, Ok, Err}
-use Rattle.std.specs.List.{list_all, Contains, IsDistinct, join_with_byte}
-use Rattle.std.specs.Str.{bytes_eq}
+use Rattle.std.specs.Prelude.{ℕ, ◌≡◌, ◌≢◌, ◌<◌, ◌≤◌, ◌^◌, ◌⊎◌, List, [], ◌∷◌, length, drop, map, decimal, bit_or, true, false, Option, Some, None, Ok, Err}
+use Rattle.std.specs.List.{join_with_byte}
 use Rattle.std.specs.Str.Parse.{digits_value}
-use Rattle.trace_words.specs.Words.{is_number, is_data_word, is_hex_digit}
+use Rattle.trace_words.specs.Words.{is_number, is_data_word}
 use Rattle.line_forms.specs.declared.cause.Cause.{Cause}
 use Rattle.line_forms.specs.declared.cause.Cause.TheVariants as cause
 use Rattle.line_forms.specs.declared.choice.Choice.{Choice as Chosen}

@@ -1,5 +1,5 @@
 -- Sets, as their words write them: names with bars between.
-use Rattle.std.specs.Prelude.{ℕ, ◌==◌, ◌++◌, List, [], ◌∷◌, Bool, true, false, bit_and, bit_or, Option, Some, None, Result, Ok, Err, if◌then◌else◌}
+use Rattle.std.specs.Prelude.{ℕ, ◌==◌, ◌++◌, List, [], ◌∷◌, Bool, true, bit_and, bit_or, Option, Some, None, Result, Ok, Err, if◌then◌else◌}
 use Rattle.dx_flags.specs.AccessNames.{access_table}
 use Rattle.dx_flags.specs.StateNames.{state_table}
 use Rattle.dx_flags.specs.SyncNames.{sync_table}

@@ -79,15 +79,9 @@ const CLASS: [Choice; 3] = [
     Choice::Class(Class::Uav),
 ];
 
-const SHARED: [Choice; 2] = [
-    Choice::Shared(false),
-    Choice::Shared(true),
-];
+const SHARED: [Choice; 2] = [Choice::Shared(false), Choice::Shared(true)];
 
-const VISIBLE: [Choice; 2] = [
-    Choice::Visible(true),
-    Choice::Visible(false),
-];
+const VISIBLE: [Choice; 2] = [Choice::Visible(true), Choice::Visible(false)];
 
 const VERSION: [Choice; 2] = [
     Choice::Version(Version::One),
@@ -183,56 +177,88 @@ impl Choice {
     pub fn list_type(self) -> ListType
         ensures { result ≡ type_in self }
     {
-        if let Choice::Type(one) = self { one } else { ListType::Direct }
+        if let Choice::Type(one) = self {
+            one
+        } else {
+            ListType::Direct
+        }
     }
 
     /// Where a buffer lies. A default where another thing is chosen.
     pub fn home(self) -> Home
         ensures { result ≡ home_in self }
     {
-        if let Choice::Home(one) = self { one } else { Home::Upload }
+        if let Choice::Home(one) = self {
+            one
+        } else {
+            Home::Upload
+        }
     }
 
     /// A layout of a texture. A default where another thing is chosen.
     pub fn layout(self) -> Layout
         ensures { result ≡ layout_in self }
     {
-        if let Choice::Layout(one) = self { one } else { Layout::Undefined }
+        if let Choice::Layout(one) = self {
+            one
+        } else {
+            Layout::Undefined
+        }
     }
 
     /// The class of a view. A default where another thing is chosen.
     pub fn class(self) -> Class
         ensures { result ≡ class_in self }
     {
-        if let Choice::Class(one) = self { one } else { Class::Cbv }
+        if let Choice::Class(one) = self {
+            one
+        } else {
+            Class::Cbv
+        }
     }
 
     /// Whether a texture is one of simultaneous access: `shared`, or else `plain`. A default where another thing is chosen.
     pub fn shared(self) -> bool
         ensures { result ≡ shared_in self }
     {
-        if let Choice::Shared(one) = self { one } else { false }
+        if let Choice::Shared(one) = self {
+            one
+        } else {
+            false
+        }
     }
 
     /// Whether a heap is visible to shaders: `visible`, or else `plain`. A default where another thing is chosen.
     pub fn visible(self) -> bool
         ensures { result ≡ visible_in self }
     {
-        if let Choice::Visible(one) = self { one } else { false }
+        if let Choice::Visible(one) = self {
+            one
+        } else {
+            false
+        }
     }
 
     /// The version of a root signature. A default where another thing is chosen.
     pub fn version(self) -> Version
         ensures { result ≡ version_in self }
     {
-        if let Choice::Version(one) = self { one } else { Version::One }
+        if let Choice::Version(one) = self {
+            one
+        } else {
+            Version::One
+        }
     }
 
     /// A routine. A default where another thing is chosen.
     pub fn routine(self) -> Routine
         ensures { result ≡ routine_in self }
     {
-        if let Choice::Routine(one) = self { one } else { Routine::Fill }
+        if let Choice::Routine(one) = self {
+            one
+        } else {
+            Routine::Fill
+        }
     }
 }
 

@@ -28,4 +28,6 @@ pub use part::{Part, PartValue, Rest};
 pub use printing::put_line;
 pub use reading::{read_line, two};
 pub use sets::SetOf;
-pub use values::{all_or_at, all_or_number_at, choice_at, id_at, name_at, number_at, set_at, word_at};
+pub use values::{
+    all_or_at, all_or_number_at, choice_at, id_at, name_at, number_at, set_at, word_at,
+};

@@ -5,7 +5,9 @@ ghost use Rattle.line_forms.specs.Lines.{rest_of_line};
 ghost use Rattle.line_forms.specs.Parts.{place_of};
 ghost use Rattle.line_forms.specs.Printing.{part_text, part_texts, rest_texts, spaced, joined, text_of};
 
-use crate::append::{end_line, end_with_words, put, put_data_word, put_decimal, put_flag_word, put_next};
+use crate::append::{
+    end_line, end_with_words, put, put_data_word, put_decimal, put_flag_word, put_next,
+};
 use crate::form::LineForm;
 use crate::kind::Kind;
 use crate::naming::Named;
