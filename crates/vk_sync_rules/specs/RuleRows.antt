@@ -138,6 +138,9 @@ pub record HostRows : Type 0 where
   pub ended : broken (runs (leading ∷ copy ∷ trailing ∷ []) ++ Bump 0 0 ∷ HostRead 1 0 (0 ∷ 0 ∷ 0 ∷ 0 ∷ []) ∷ []) ≡ None
   pub no_barrier : broken (runs (leading ∷ copy ∷ []) ++ Bump 0 0 ∷ HostRead 1 0 (0 ∷ 0 ∷ 0 ∷ 0 ∷ []) ∷ []) ≡ Some V10
   pub no_host_stage : broken (runs (copy ∷ barrier all_stages every_write all_stages all_accesses ∷ []) ++ Bump 0 0 ∷ HostRead 1 0 (0 ∷ []) ∷ []) ≡ Some V10
+  -- what a later batch shows is seen once that one has ended
+  pub shown_early : broken (runs (copy ∷ []) ++ Bump 0 0 ∷ Submit (batch 0 1 [] (trailing ∷ []) []) ∷ Pass 0 1 ∷ Command 0 1 1 [] ∷ HostRead 1 0 (0 ∷ []) ∷ []) ≡ Some V10
+  pub shown : broken (runs (copy ∷ []) ++ Bump 0 0 ∷ Submit (batch 0 1 [] (trailing ∷ []) []) ∷ Pass 0 1 ∷ Command 0 1 1 [] ∷ Bump 0 1 ∷ HostRead 1 0 (0 ∷ []) ∷ []) ≡ None
   pub other_words : broken (runs (Copy 1 0 0 0 2 ∷ []) ++ HostRead 1 2 (0 ∷ 0 ∷ []) ∷ []) ≡ None
   pub own_write : broken (wrote ∷ HostRead 0 0 (5 ∷ []) ∷ []) ≡ None
   pub read_by_device : broken (runs (copy ∷ []) ++ HostRead 0 0 (0 ∷ []) ∷ []) ≡ None
