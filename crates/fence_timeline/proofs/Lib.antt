@@ -8,3 +8,4 @@ pub mod OrderedWaits
 pub mod KeptFence
 pub mod FenceCalls
 pub mod FenceLaws
+pub mod TestLemmas

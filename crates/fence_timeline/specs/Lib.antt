@@ -5,3 +5,4 @@ pub mod FenceList
 pub mod Endings
 pub mod Fence
 pub mod Laws
+pub mod Tests

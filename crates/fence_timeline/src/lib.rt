@@ -5,6 +5,8 @@ mod fence;
 mod laws;
 mod pending;
 mod runs;
+#[cfg(test)]
+mod tests;
 mod update;
 mod updates;
 mod wait;

@@ -1,0 +1,11 @@
+-- What tests keep of a fence.
+use Rattle.std.specs.Prelude.{[], ◌∷◌}
+use Rattle.fence_timeline.specs.declared.wait.Wait.{Wait}
+use Rattle.fence_timeline.specs.Waits.{IsIn}
+use Rattle.fence_timeline.specs.FenceList.{FenceList, IsFenceList, HaveCounters, pending_of}
+
+-- a wait is armed, and each pending update is of one of two queues
+pub record IsWaitedFor (s : FenceList) (w : Wait) : Type 0 where
+  pub list : IsFenceList s
+  pub armed : IsIn s.armed w
+  pub two : HaveCounters (0 ∷ 0 ∷ []) (pending_of s)
