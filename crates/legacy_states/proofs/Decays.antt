@@ -1,5 +1,5 @@
 -- What is left at the end of a scope.
-use Rattle.std.proofs.Common.{◌≡◌, ◌≢◌, Bool, true, false, ◌||◌, cond, refl, ap}
+use Rattle.std.proofs.Common.{◌≡◌, ◌≢◌, true, false, ◌||◌, refl}
 use Rattle.std.proofs.lemmas.Bool.{or_right, cond-true, cond-false}
 use Rattle.dx_base.specs.declared.kinds.ListType.{ListType}
 use Rattle.dx_base.specs.declared.kinds.ListType.TheVariants.{Direct, Compute, Copy}

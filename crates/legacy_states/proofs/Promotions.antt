@@ -1,6 +1,6 @@
 -- What holds of the state after an access that is allowed.
-use Rattle.std.proofs.Common.{◌≡◌, ℕ, Bool, true, false, ◌&&◌, ◌||◌, ◌==◌, bit_and, bit_or, refl, sym, ap, subst, ◌∙◌, inl, inr, ◌⊎◌, Option, Some, None, cond}
-use Rattle.std.proofs.lemmas.Bool.{and_parts, or_cases, eqb-true, eq-eqb, cases_Bool, cond-true, cond-false}
+use Rattle.std.proofs.Common.{◌≡◌, Bool, true, false, ◌&&◌, ◌||◌, refl, sym, ap, subst, inl, inr, ◌⊎◌, Option, Some, None, cond}
+use Rattle.std.proofs.lemmas.Bool.{and_parts, or_cases, eqb-true, eq-eqb}
 use Rattle.std.specs.Int.Bits.{and_self}
 use Rattle.std.proofs.lemmas.Nat.{and_or_self}
 use Rattle.dx_flags.specs.declared.states.State.{State}
@@ -11,7 +11,7 @@ use Rattle.legacy_states.specs.declared.currents.Current.{Current}
 use Rattle.legacy_states.specs.declared.currents.Kind.{Kind}
 use Rattle.legacy_states.specs.declared.currents.Kind.TheVariants.{Buffer, Shared, Plain}
 use Rattle.legacy_states.specs.Currents.{contains, joined, is_state, is_read_state, is_promoted_read, promoted_to}
-use Rattle.legacy_states.specs.Promotion.{may_plain_be_promoted_to, may_be_promoted_to, promoted_from, promoted_of}
+use Rattle.legacy_states.specs.Promotion.{may_be_promoted_to, promoted_from, promoted_of}
 use Rattle.legacy_states.specs.Laws.{IsPromotion}
 use Rattle.legacy_states.proofs.ReadUnions.{union_is_valid}
 
