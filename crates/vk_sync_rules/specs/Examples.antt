@@ -1,5 +1,5 @@
 -- The devices, commands and steps of the worked rows.
-use Rattle.std.specs.Prelude.{ℕ, ◌+◌, Bool, true, ◌&&◌, List, [], ◌∷◌, ◌++◌, Option, Some, None}
+use Rattle.std.specs.Prelude.{ℕ, ◌+◌, Bool, true, ◌&&◌, List, [], ◌∷◌, ◌++◌, length, Option, Some, None}
 use Rattle.dx_base.specs.declared.kinds.Class.TheVariants.{Srv, Uav}
 use Rattle.dx_base.specs.declared.kinds.Home.TheVariants.{Enhanced}
 use Rattle.dx_base.specs.declared.kinds.Routine.{Routine}
@@ -126,6 +126,10 @@ buffers ss = (after_steps at_first ss).numbers.buffers
 
 abbrev pub images : List VkStep → List (List (List (Option ℕ)))
 images ss = (after_steps at_first ss).numbers.images
+
+-- how many accesses steps leave
+abbrev pub count_accesses : List VkStep → ℕ
+count_accesses ss = length (after_steps at_first ss).accesses
 
 -- each step can be taken when its turn comes
 abbrev pub all_enabled : VkState → List VkStep → Bool

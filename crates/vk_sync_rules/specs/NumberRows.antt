@@ -7,7 +7,7 @@ use Rattle.vk_types.specs.declared.registers.Count.TheVariants.{Word}
 use Rattle.vk_types.specs.declared.registers.Register.TheVariants.{Unbound, Constant, Root, Fixed, Slot}
 use Rattle.vk_types.specs.declared.steps.VkStep.TheVariants.{Submit, Pass, Command, Bump, HostWrite}
 use Rattle.vk_sync_rules.specs.AccessSets.{all_stages, every_write}
-use Rattle.vk_sync_rules.specs.Examples.{leading, trailing, between, change, from_nothing, image_copy, copy, dispatch, batch, begin, run, runs, wrote, buffers, images, at_first, all_enabled}
+use Rattle.vk_sync_rules.specs.Examples.{leading, trailing, between, change, from_nothing, image_copy, copy, dispatch, batch, begin, run, runs, wrote, buffers, count_accesses, images, at_first, all_enabled}
 
 -- known numbers
 abbrev pub words : List ℕ → List (Option ℕ)
@@ -24,6 +24,10 @@ pub record NumberRows : Type 0 where
   -- past an end the words of the destination that are there are open
   pub past_end : buffers (wrote ∷ runs (Copy 1 2 0 0 3 ∷ [])) ≡ words (5 ∷ 6 ∷ 7 ∷ 8 ∷ []) ∷ (Some 0 ∷ Some 0 ∷ None ∷ None ∷ []) ∷ []
   pub host_past_end : buffers (HostWrite 0 3 (1 ∷ 2 ∷ []) ∷ []) ≡ (Some 0 ∷ Some 0 ∷ Some 0 ∷ None ∷ []) ∷ words (0 ∷ 0 ∷ 0 ∷ 0 ∷ []) ∷ []
+  -- and no access is made; nor of no words
+  pub none_past_end : count_accesses (HostWrite 0 3 (1 ∷ 2 ∷ []) ∷ runs (Copy 1 2 0 0 3 ∷ [])) ≡ 0
+  pub none_of_no_words : count_accesses (HostWrite 0 3 [] ∷ runs (Copy 1 2 0 0 0 ∷ [])) ≡ 0
+  pub one_each : count_accesses (HostWrite 0 3 (1 ∷ []) ∷ runs (Copy 1 2 0 0 2 ∷ [])) ≡ 3
   -- a layout change from UNDEFINED leaves any numbers, another one keeps them
   pub undefined : images (runs (from_nothing General ∷ [])) ≡ ((None ∷ None ∷ []) ∷ (None ∷ None ∷ []) ∷ []) ∷ []
   pub changed : images (runs (from_nothing General ∷ leading ∷ Clear (Fixed 5) 7 ∷ change all_stages every_write General TransferDstOptimal ∷ [])) ≡ ((None ∷ None ∷ []) ∷ words (7 ∷ 7 ∷ []) ∷ []) ∷ []
