@@ -12,3 +12,4 @@ pub mod Judging
 pub mod Replies
 pub mod Tables
 pub mod Thresholds
+pub mod Pending

@@ -7,6 +7,8 @@ use Rattle.d3d_machine.specs.declared.calls.Call.TheVariants as call
 use Rattle.d3d_machine.specs.declared.calls.Reply.{Reply}
 use Rattle.d3d_machine.specs.declared.events.Event.{Event}
 use Rattle.d3d_machine.specs.declared.events.Event.TheVariants as event
+use Rattle.d3d_machine.specs.declared.events.Operation.{Operation}
+use Rattle.d3d_machine.specs.declared.events.Operation.TheVariants as operation
 use Rattle.d3d_machine.specs.declared.world.World.{World}
 use Rattle.d3d_machine.specs.State.{Desk, State, first_state}
 use Rattle.d3d_machine.specs.Replies.{refusal}
@@ -47,6 +49,11 @@ deed_of d (call.HostWait f v) = WaitsFor f.0 v
 deed_of d (call.Value f) = Asks f.0
 deed_of d (call.Write b offset ws) = Stores (record { resource = b.0; sub = 0; first = offset / 4; words = length ws })
 deed_of d (call.Read b offset bytes) = Loads (bytes_of b.0 offset bytes)
+
+-- an operation of a queue as work
+abbrev pub work_of : Operation → Work
+work_of (operation.Execute commands) = Executes (map (λ x. command_of x.what) commands)
+work_of (operation.Signal f v) = Signals f.0 v
 
 -- a refused call does nothing
 abbrev pub unless_refused : Option Hresult → Deed → Deed

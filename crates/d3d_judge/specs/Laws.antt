@@ -9,6 +9,7 @@ use Rattle.d3d_machine.specs.declared.calls.Reply.{Reply}
 use Rattle.d3d_machine.specs.declared.events.Event.{Event}
 use Rattle.d3d_machine.specs.declared.events.Event.TheVariants as event
 use Rattle.d3d_machine.specs.declared.world.World.{World}
+use Rattle.d3d_machine.specs.Play.{state_after}
 use Rattle.d3d_judge.specs.Made.{touches_of, made_from}
 use Rattle.d3d_judge.specs.declared.rules.Rule.{Rule}
 use Rattle.d3d_judge.specs.declared.rules.Verdict.TheVariants.{Clean, Broken}
@@ -17,7 +18,7 @@ use Rattle.d3d_judge.specs.Carried.{Clocks, Pending, Sound, Fresh, carried, carr
 use Rattle.d3d_judge.specs.Commands.{Range, Access, pair_of, Command, Accesses, Bars, is_change}
 use Rattle.d3d_judge.specs.Covering.{Known, Covering, AreApart, IsCoveredLater, bare, opened_from}
 use Rattle.d3d_judge.specs.Judged.{scope_of, judge, judge_after}
-use Rattle.d3d_judge.specs.Happenings.{Happening, Calls, Completes, Stores, Loads, Executes, with_reply, happenings}
+use Rattle.d3d_judge.specs.Happenings.{Happening, Calls, Completes, Stores, Loads, Executes, with_reply, happenings, work_of}
 use Rattle.d3d_judge.specs.Scopes.{Scoped, reaches, named, breaks_three, breaks_twelve, rule_of_command, scope_all}
 use Rattle.d3d_judge.specs.Setting.{Setting, setting_of}
 use Rattle.d3d_judge.specs.Touches.{Touch, conflict, doing_of, overlaps}
@@ -29,6 +30,10 @@ StaySound = (s : Clocks) (es : List Happening) → Sound s → Sound (carried_al
 -- the clocks of every history know only calls that were made and operations that are complete
 abbrev pub ClocksAreSound : Type 0
 ClocksAreSound = (w : World) (h : List Event) → Sound (clocks_after w h)
+
+-- the pending operations of the clocks are the called and incomplete operations of the machine, queue by queue
+abbrev pub PendingAreCalled : Type 0
+PendingAreCalled = (w : World) (h : List Event) → map (map (λ p. p.what)) (clocks_after w h).pending ≡ map (map work_of) (state_after w h).desk.called
 
 -- a host access is known to no clock but its thread's, right after it
 abbrev pub LoadsAreFresh : Type 0

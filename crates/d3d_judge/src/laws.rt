@@ -1,6 +1,6 @@
 //! Laws of clocks, of scopes and of the judge. The functions do nothing.
 
-ghost use Rattle.d3d_judge.specs.Laws.{StaySound, ClocksAreSound, LoadsAreFresh, StoresAreFresh, KnowAhead};
+ghost use Rattle.d3d_judge.specs.Laws.{PendingAreCalled, StaySound, ClocksAreSound, LoadsAreFresh, StoresAreFresh, KnowAhead};
 ghost use Rattle.d3d_judge.specs.Laws.{CleanExecutesKnow, CleanClocksAre, MadeIsAll, TouchedAreAll, BrokenStays, RepliesPlayNoPart};
 ghost use Rattle.d3d_judge.specs.Thresholds.{CoversGrow, ThresholdsTell, ThresholdsAreBehind};
 ghost use Rattle.d3d_judge.specs.Tables.{TablesTell, QueueTablesTell, ThreadTablesTell};
@@ -11,6 +11,12 @@ ghost use Rattle.d3d_judge.specs.Laws.{OfScopes, BreakNothing, ScopesCover, Chan
 pub fn clocks_are_sound()
     ensures stay { StaySound }
     ensures of_histories { ClocksAreSound }
+{}
+
+/// The pending operations of the clocks are the machine's called and incomplete ones, queue by queue.
+#[tactic(none)]
+pub fn pending_operations_are_those_of_the_machine()
+    ensures { PendingAreCalled }
 {}
 
 /// Right after a host access no clock but that of its thread knows the call.
