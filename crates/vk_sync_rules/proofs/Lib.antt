@@ -7,6 +7,14 @@ pub mod EndedBatches
 pub mod LastWrites
 pub mod FirstState
 pub mod Knowledge
+pub mod LastFound
+pub mod ListSteps
+pub mod JournalSteps
+pub mod SlotSteps
+pub mod Extents
+pub mod Words
+pub mod FirstLists
+pub mod HostSteps
 pub mod Gains
 pub mod Entries
 pub mod Timelines

@@ -29,3 +29,4 @@ pub mod Timelines
 pub mod Examples
 pub mod RuleRows
 pub mod NumberRows
+pub mod Machines

@@ -2,12 +2,29 @@
 //! chapter 7) as definitions, with their laws.
 #![tactic(auto)]
 
+mod access_sets;
 mod accesses;
 mod counts;
+mod enabled;
+mod first_state;
+mod host;
+mod journal;
+mod last_tests;
+mod last_writes;
 mod laws;
+mod machine;
+mod moves;
+mod numbers;
+mod orders;
+mod pending;
 mod places;
 mod ranges;
 mod rules;
+mod scopes;
+mod sizes;
+mod slots;
+mod timeline_values;
+mod updates;
 
 pub use accesses::{DoneAccess, Gain, Maker};
 pub use counts::{Counts, Done};
@@ -18,6 +35,7 @@ pub use laws::{
     known_accesses_enter, known_batches_are_done, last_writes_are_last, nothing_shrinks,
     rows_compute, runs_stay_sound, submissions_order_the_host, values_rise,
 };
+pub use machine::VkMachine;
 pub use places::Place;
 pub use ranges::{VkResource, WordRange};
 pub use rules::VkRule;

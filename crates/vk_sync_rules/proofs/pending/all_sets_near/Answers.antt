@@ -1,0 +1,8 @@
+-- What is pending, batch by batch.
+use Rattle.std.proofs.Common.{◌∙◌, sym}
+use Rattle.vk_sync_rules.specs.Machines.{is_near_it, sets_left}
+use Rattle.vk_sync_rules.proofs.ListSteps.{all_flat}
+use Rattle.vk_sync_rules.proofs.pending.all_sets_near.Goals as goal
+
+pub returns : goal.returns
+returns c = c.each_sets_near.ensures ∙ sym (all_flat (is_near_it c.args.pair) (sets_left c.args.queues.now) c.args.journal.now)
