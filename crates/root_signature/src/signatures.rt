@@ -20,7 +20,7 @@ use std::alloc::Global;
 use std::marker::Model;
 
 /// A root signature (ID3D12RootSignature), none of those that are refused.
-#[derive(Drop)]
+#[derive(Debug, Drop, PartialEq, Eq)]
 pub struct Signature {
     version: Version,
     params: Seq<Param>,
@@ -32,6 +32,8 @@ impl Model for Signature {
     ghost Value = { SignatureView };
 
     ghost view = { λ it. record { version = it.version; params = it.params } };
+
+    ghost inverse = { λ it. record { version = it.version; params = it.params } };
 
     ghost invariant = { λ it. IsSignature (record { version = it.version; params = it.params }) };
 }
