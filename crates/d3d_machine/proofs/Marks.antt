@@ -111,7 +111,3 @@ value_is_last w h f inside = last_from w (first_state w) f h (first_has_shape w)
 pub met_at_call : (w : World) (h : List Event) (f v : ℕ) → f < length w.fences →
     is_met (applied_updates w h f) (current_update w h f) v ≡ nat_le v (value_of (state_after w h).desk f)
 met_at_call w h f v inside = ap (list_any (λ u. nat_le v u)) (value_is_last w h f inside) ∙ or_false (nat_le v (value_of (state_after w h).desk f))
-
--- the current update is the last applied one
-pub current_is_last : (w : World) (h : List Event) (f : ℕ) → current_update w h f ≡ length (applied_updates w h f) - 1
-current_is_last w h f = omega arith

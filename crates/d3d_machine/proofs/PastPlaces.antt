@@ -4,7 +4,6 @@ use Rattle.std.proofs.lemmas.List.{length-map}
 use Rattle.std.proofs.lemmas.Bool.{cases_eq, ltb-true, lt-ltb}
 use Rattle.std.proofs.lemmas.Bool.Decides.{nat_tests}
 use Rattle.std.specs.List.{list_any, list_all}
-use Rattle.std.specs.Option.{option_map}
 use Rattle.std.specs.Prelude.{◌==◌, ◌&&◌, ◌||◌, nat_lt, nat_le, slice_index_or}
 use Rattle.dx_base.specs.Lists.{changed_at}
 use Rattle.dx_base.proofs.Lists.{map_changed, get_or_changed, get_or_changed_other, and_both, and_of, all_changed}
@@ -23,14 +22,14 @@ use Rattle.d3d_machine.specs.CallEffects.{does}
 use Rattle.d3d_machine.specs.State.{Place, Desk, State, value_of, opening_place}
 use Rattle.d3d_machine.specs.Replies.{refusal_by}
 use Rattle.d3d_machine.specs.Effects.{with_one, after, done, begins_wait, one_call_more, marked_place, marked_places, waiting_places, head_of, dropped, desk_after_operation}
-use Rattle.d3d_machine.specs.Play.{May, SameButWords, IsRunButWords, state_after}
+use Rattle.d3d_machine.specs.Play.{May, SameButWords, state_after}
 use Rattle.d3d_machine.specs.Fences.{operation_sets, event_sets, is_met}
 use Rattle.d3d_machine.proofs.Runs.{state_after_append, run_induction}
 use Rattle.d3d_machine.proofs.Marks.{is_met_one}
-use Rattle.d3d_machine.proofs.CallEffects.{is_wait, wait_sets_none}
+use Rattle.d3d_machine.proofs.CallEffects.{is_wait}
 use Rattle.d3d_machine.proofs.Named.{next_is_named}
 use Rattle.d3d_machine.proofs.Shape.{run_has_shape}
-use Rattle.d3d_machine.specs.Past.{WaitSince, PlaceSince, Move, calls, wakes, event_moves, Past, updates_at, moved, first_place, after_past, past, first_past, last_of, waiting_from, place_from, is_behind, IsRight, PastsAreRight}
+use Rattle.d3d_machine.specs.Past.{WaitSince, PlaceSince, Move, calls, wakes, event_moves, Past, updates_at, moved, first_place, after_past, past, first_past, last_of, place_from, is_behind, IsRight, PastsAreRight}
 use Rattle.d3d_machine.proofs.Past.{past_append}
 
 -- lists of updates

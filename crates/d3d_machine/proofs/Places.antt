@@ -1,5 +1,5 @@
 -- The place of a thread after an event, and its calls in a run.
-use Rattle.std.proofs.Common.{ℕ, zero, suc, ◌≡◌, ◌≢◌, ◌<◌, ◌+◌, ◌==◌, refl, sym, ap, ◌∙◌, subst, Bool, true, false, List, [], ◌∷◌, ◌++◌, map, take, length, slice_get, length-append, append-nil, add-one, add-zero, ◌⊎◌, inl, inr, Option, Some, None, arith}
+use Rattle.std.proofs.Common.{ℕ, zero, suc, ◌≡◌, ◌≢◌, ◌<◌, ◌+◌, ◌==◌, refl, sym, ap, ◌∙◌, subst, true, false, List, [], ◌∷◌, ◌++◌, map, take, length, slice_get, length-append, append-nil, add-one, add-zero, ◌⊎◌, inl, inr, Option, Some, None, arith}
 use Rattle.std.proofs.lemmas.Bool.{cases_eq}
 use Rattle.std.proofs.lemmas.Bool.Decides.{nat_tests}
 use Rattle.dx_base.specs.Lists.{changed_at}
@@ -52,11 +52,6 @@ changed_other f (p ∷ ps) zero zero n = absurd (n refl)
 changed_other f (p ∷ ps) zero (suc t) n = refl
 changed_other f (p ∷ ps) (suc u) zero n = refl
 changed_other f (p ∷ ps) (suc u) (suc t) n = changed_other f ps u t (λ e. n (ap suc e))
-
-pub mapped_here : (f : Place → Place) (ps : List Place) (t : ℕ) → t < length ps → place_in (map f ps) t ≡ f (place_in ps t)
-mapped_here f [] t h = absurd (omega arith)
-mapped_here f (p ∷ ps) zero h = refl
-mapped_here f (p ∷ ps) (suc t) h = mapped_here f ps t (omega arith)
 
 pub made_marked : (o : Option (At ℕ)) (ps : List Place) (t : ℕ) → (place_in (marked_places o ps) t).made ≡ (place_in ps t).made
 made_marked None ps t = refl

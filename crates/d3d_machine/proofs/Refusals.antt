@@ -1,5 +1,5 @@
 -- A call that is answered by an error has no effect.
-use Rattle.std.proofs.Common.{ℕ, ◌≡◌, refl, sym, ap, ◌∙◌, subst, List, [], ◌∷◌, ◌++◌, Option, Some, None, Bool}
+use Rattle.std.proofs.Common.{ℕ, ◌≡◌, refl, sym, ap, ◌∙◌, subst, List, [], ◌∷◌, ◌++◌, Option, Some, None}
 use Rattle.dx_base.specs.declared.hresult.Hresult.{Hresult}
 use Rattle.dx_base.specs.declared.ids.ThreadId.{ThreadId}
 use Rattle.d3d_machine.specs.declared.world.World.{World}
@@ -12,8 +12,7 @@ use Rattle.d3d_machine.specs.State.{State, first_state, list_of, is_recording}
 use Rattle.d3d_machine.specs.declared.events.Listed.{Listed}
 use Rattle.d3d_machine.specs.CallEffects.{Change, Does, does}
 use Rattle.d3d_machine.specs.Replies.{refusal, answer, good_reply, reply_or, reply_of}
-use Rattle.d3d_machine.specs.Effects.{changed, change_unless, done_unless, operation_given, with_one, marked_places, waiting_places, desk_by, memory_by, one_call_more, counted, after, after_all}
-use Rattle.dx_base.specs.Lists.{changed_at, put}
+use Rattle.d3d_machine.specs.Effects.{changed, change_unless, done_unless, operation_given, with_one, desk_by, memory_by, counted, after, after_all}
 use Rattle.dx_base.specs.Effects.{At, changed_by}
 use Rattle.dx_base.proofs.Effects.{unless_refused}
 use Rattle.d3d_machine.specs.Play.{Plays, SameButWords, state_after}

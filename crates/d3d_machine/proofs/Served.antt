@@ -23,10 +23,6 @@ use Rattle.d3d_machine.proofs.CallsOnLists.{changed_unless, ended_unless}
 abbrev with_lists : State → List Listed → State
 with_lists s lists = record s { desk = record s.desk { lists = lists } }
 
-pub desk_same : (r : Option Hresult) (d : Desk) → desk_or r d d ≡ d
-desk_same None d = refl
-desk_same (Some e) d = refl
-
 pub served_record : (w : World) (s : State) (t : ℕ) (l : ListId) (what : Record) →
     served w s t (call.Recording l what) ≡ record s { desk = record s.desk { lists = lists_after_record w s.desk.lists l.0 what } }
 served_record w s t l what = ap (with_lists s) (changed_unless w s.desk.lists (record_refusal s.desk.lists l.0) l.0 (records what))

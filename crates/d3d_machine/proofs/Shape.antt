@@ -1,5 +1,5 @@
 -- Events keep the shape of a state, and lists short.
-use Rattle.std.proofs.Common.{ℕ, ◌≡◌, ◌+◌, ◌/◌, refl, ◌∙◌, Bool, true, false, List, [], ◌∷◌, ◌++◌, map, drop, length, Option, Some, None}
+use Rattle.std.proofs.Common.{ℕ, ◌≡◌, ◌+◌, ◌/◌, refl, ◌∙◌, List, [], ◌∷◌, ◌++◌, map, drop, length, Option, Some, None}
 use Rattle.std.proofs.Math.ListN.{length-map}
 use Rattle.dx_base.proofs.Lists.{length_changed}
 use Rattle.dx_base.proofs.Effects.{length_by}
