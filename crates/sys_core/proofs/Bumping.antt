@@ -1,5 +1,5 @@
 -- The system stays consistent when the device takes a step.
-use Rattle.std.proofs.Common.{ℕ, zero, suc, ◌≡◌, ◌≢◌, ◌<◌, ◌≤◌, ◌+◌, ◌-◌, ◌∙◌, sym, ap, subst, refl, arith, List, [], ◌∷◌, ◌++◌, length, map, take, drop, Some, None, Option, append-nil, get_or, set, inl, inr, length-drop}
+use Rattle.std.proofs.Common.{ℕ, zero, suc, ◌≡◌, ◌≢◌, ◌<◌, ◌≤◌, ◌+◌, ◌-◌, ◌∙◌, sym, ap, subst, refl, arith, List, [], ◌∷◌, ◌++◌, length, map, take, drop, Some, None, Option, get_or, set, inl, inr, length-drop}
 use Rattle.std.proofs.lemmas.Bool.{lt-ltb}
 use Rattle.std.proofs.lemmas.Bool.Decides.{eqb_tells}
 use Rattle.std.proofs.lemmas.List.{length-map}
@@ -30,7 +30,7 @@ use Rattle.vk_port.specs.Journal.{next_number, of_queue, first_number}
 use Rattle.vk_port.specs.Meaning.{IsBump, IsEnabled}
 use Rattle.vk_port.proofs.Valid.{step_valid}
 use Rattle.vk_port.proofs.Lists.{item_at, get_of_take}
-use Rattle.d3d_machine.proofs.Runs.{run_append, state_after_append}
+use Rattle.d3d_machine.proofs.Runs.{run_append}
 use Rattle.dx_base.specs.declared.kinds.ListType.{ListType}
 use Rattle.sys_core.proofs.PastParts.{past_completion}
 use Rattle.d3d_machine.specs.Past.{past}

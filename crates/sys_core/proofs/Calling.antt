@@ -1,7 +1,5 @@
 -- The system stays consistent when it has served a call, and when a thread wakes.
-use Rattle.std.proofs.Common.{ℕ, zero, suc, ◌≡◌, ◌+◌, ◌-◌, ◌/◌, ◌∙◌, sym, ap, subst, refl, arith, List, [], ◌∷◌, ◌++◌, length, map, drop, Some, None, Option, Bool, true, false, is_some, append-nil, length-take, length-drop, inl, inr}
-use Rattle.std.proofs.lemmas.Bool.{ltb-true}
-use Rattle.std.proofs.lemmas.Option.{get_or_from_slice_get}
+use Rattle.std.proofs.Common.{ℕ, zero, suc, ◌≡◌, ◌+◌, ◌-◌, ◌/◌, ◌∙◌, sym, ap, subst, refl, arith, List, [], ◌∷◌, ◌++◌, length, map, drop, Some, None, Option, true, is_some, append-nil, length-take, length-drop, inl, inr}
 use Rattle.std.specs.List.{slice_get}
 use Rattle.std.specs.Prelude.{◌==◌, if◌then◌else◌}
 use Rattle.dx_base.specs.Lists.{changed_at, range_of}
@@ -9,7 +7,7 @@ use Rattle.dx_base.specs.declared.ids.ThreadId.{ThreadId}
 use Rattle.dx_base.specs.declared.hresult.Hresult.{Hresult}
 use Rattle.dx_base.specs.Effects.{At, changed_by}
 use Rattle.dx_base.proofs.Effects.{length_by}
-use Rattle.dx_base.proofs.Lists.{length_changed, get_changed, get_changed_other}
+use Rattle.dx_base.proofs.Lists.{get_changed, get_changed_other}
 use Rattle.d3d_machine.specs.declared.world.World.{World}
 use Rattle.d3d_machine.specs.declared.calls.Call.{Call}
 use Rattle.d3d_machine.specs.CallEffects.{here_of, does}
@@ -20,9 +18,9 @@ use Rattle.d3d_machine.specs.declared.events.Event.{Event}
 use Rattle.d3d_machine.specs.declared.events.Event.TheVariants as event
 use Rattle.d3d_machine.specs.State.{Desk, State, place_of, next_call, value_of, words_at}
 use Rattle.d3d_machine.specs.Replies.{refusal_by, refusal, answer, reply_or, good_reply, reply_of}
-use Rattle.d3d_machine.specs.Effects.{operation_given, done, memory_by, desk_after_call}
+use Rattle.d3d_machine.specs.Effects.{done, memory_by}
 use Rattle.d3d_machine.specs.Play.{May, SameButWords, state_after}
-use Rattle.d3d_machine.proofs.Runs.{run_append, state_after_append}
+use Rattle.d3d_machine.proofs.Runs.{run_append}
 use Rattle.vk_port.specs.VkState.{VkState}
 use Rattle.sys_core.specs.declared.parts.Seat.{Seat}
 use Rattle.d3d_machine.specs.declared.events.Operation.{Operation}

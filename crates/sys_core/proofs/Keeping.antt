@@ -1,13 +1,10 @@
 -- The system keeps what it keeps at each step.
 use Rattle.std.proofs.Common.{ℕ, ◌≡◌, ◌<◌, ◌+◌, ◌∙◌, sym, ap, subst, refl, List, [], ◌∷◌, ◌++◌, length, map, Some, None, Option, true}
-use Rattle.std.proofs.lemmas.Bool.{ltb-true}
-use Rattle.std.proofs.lemmas.Option.{slice_get-map, get_or_from_slice_get}
 use Rattle.std.specs.List.{slice_get}
 use Rattle.std.specs.Option.{option_map}
 use Rattle.std.specs.Prelude.{nat_lt}
 use Rattle.dx_base.specs.Lists.{changed_at}
 use Rattle.dx_base.specs.declared.ids.ThreadId.{ThreadId}
-use Rattle.dx_base.proofs.Lists.{and_both}
 use Rattle.d3d_machine.specs.declared.world.World.{World}
 use Rattle.d3d_machine.specs.declared.calls.Call.{Call}
 use Rattle.d3d_machine.specs.declared.events.Listed.{Listed}
@@ -17,16 +14,15 @@ use Rattle.d3d_machine.specs.Effects.{with_one}
 use Rattle.d3d_machine.proofs.CallEffects.{wait_sets_none}
 use Rattle.d3d_machine.specs.declared.events.Event.{Event}
 use Rattle.d3d_machine.specs.declared.events.Event.TheVariants as event
-use Rattle.d3d_machine.specs.State.{Place, place_of, opening_place, script_of}
+use Rattle.d3d_machine.specs.State.{Place, place_of, script_of}
 use Rattle.d3d_machine.specs.Play.{is_marked, state_after}
 use Rattle.d3d_machine.specs.Past.{place_from, waiting_from}
-use Rattle.d3d_machine.proofs.Named.{all_at}
 use Rattle.vk_types.specs.declared.plan.DevicePlan.{DevicePlan}
 use Rattle.vk_port.specs.VkState.{VkState}
 use Rattle.sys_core.specs.declared.parts.Armed.{Armed}
 use Rattle.sys_core.specs.declared.parts.Seat.{Seat}
 use Rattle.sys_core.specs.declared.parts.Parts.{Parts}
-use Rattle.sys_core.specs.Parts.{Queued, queued, updates_in, wait_since, place_since, is_met_by, reply_by, lists_by, held_by, fences_by, armed_or, device_by, seat_after, woken_seat}
+use Rattle.sys_core.specs.Parts.{Queued, queued, updates_in, wait_since, place_since, reply_by, lists_by, held_by, fences_by, armed_or, device_by, seat_after, woken_seat}
 use Rattle.sys_core.specs.Steps.{is_ready_thread, is_ready_place}
 use Rattle.sys_core.specs.Consistent.{IsConsistent}
 use Rattle.sys_core.specs.Lowering.{AreNumbers}

@@ -1,5 +1,5 @@
 -- In a world without queues nothing is ever called, and the device's words are the machine's memory.
-use Rattle.std.proofs.Common.{ℕ, ◌≡◌, ◌<◌, ◌≤◌, ◌∙◌, sym, ap, refl, arith, List, [], ◌∷◌, ◌++◌, length, drop, map, Some, None, Option, Bool, true, inl, inr, get_or}
+use Rattle.std.proofs.Common.{ℕ, ◌≡◌, ◌<◌, ◌≤◌, ◌∙◌, sym, ap, refl, arith, List, [], ◌∷◌, ◌++◌, length, drop, Some, None, Option, true, inl, inr, get_or}
 use Rattle.std.specs.Prelude.{◌==◌, ◌&&◌, nat_lt, if◌then◌else◌}
 use Rattle.std.specs.List.{list_all}
 use Rattle.std.proofs.lemmas.Bool.{ltb-true, cases_lt}
@@ -9,12 +9,11 @@ use Rattle.dx_base.specs.Effects.{At, unless}
 use Rattle.d3d_machine.specs.declared.world.World.{World}
 use Rattle.d3d_machine.specs.declared.calls.Call.{Call}
 use Rattle.d3d_machine.specs.declared.calls.Call.TheVariants as call
-use Rattle.d3d_machine.specs.declared.events.Operation.{Operation}
 use Rattle.d3d_machine.specs.declared.events.Listed.{Listed}
 use Rattle.d3d_machine.specs.declared.events.Event.{Event}
 use Rattle.d3d_machine.specs.declared.events.Event.TheVariants as event
 use Rattle.d3d_machine.specs.World.{IsWorld, is_named}
-use Rattle.d3d_machine.specs.State.{Desk, State, first_state}
+use Rattle.d3d_machine.specs.State.{State, first_state}
 use Rattle.d3d_machine.specs.CallEffects.{here_of, Task, does}
 use Rattle.d3d_machine.specs.Replies.{refusal_by}
 use Rattle.d3d_machine.specs.Effects.{operation_of, operation_given, memory_after}

@@ -1,16 +1,15 @@
 -- The system is consistent before any call, when the start-up batch is submitted.
-use Rattle.std.proofs.Common.{ℕ, zero, suc, ◌≡◌, ◌<◌, ◌+◌, ◌-◌, ◌∙◌, sym, ap, subst, refl, arith, List, [], ◌∷◌, length, map, Some, None, Option, true, get_or, replicate, ◌++◌, ◌≤◌, inl, inr}
+use Rattle.std.proofs.Common.{ℕ, zero, suc, ◌≡◌, ◌<◌, ◌+◌, ◌-◌, ◌∙◌, sym, ap, subst, refl, arith, List, [], ◌∷◌, length, map, Some, true, get_or, replicate, ◌++◌, ◌≤◌, inl, inr}
 use Rattle.std.proofs.lemmas.Bool.{cases_lt}
 use Rattle.std.proofs.lemmas.List.{length-map, length-replicate}
-use Rattle.std.proofs.lemmas.Option.{slice_get_within, slice_get-map, slice_get-get_or}
-use Rattle.std.specs.List.{slice_get, list_all}
-use Rattle.std.specs.Option.{option_map}
+use Rattle.std.proofs.lemmas.Option.{slice_get_within}
+use Rattle.std.specs.List.{slice_get}
 use Rattle.std.specs.Prelude.{nat_lt, ◌&&◌}
 use Rattle.dx_base.specs.Lists.{changed_at}
 use Rattle.d3d_machine.specs.declared.world.World.{World}
 use Rattle.d3d_machine.specs.declared.calls.Call.{Call}
 use Rattle.d3d_machine.specs.World.{IsWorld}
-use Rattle.d3d_machine.specs.State.{declared_list, opening_place}
+use Rattle.d3d_machine.specs.State.{declared_list}
 use Rattle.vk_types.specs.declared.plan.DevicePlan.{DevicePlan}
 use Rattle.vk_port.specs.declared.lanes.Lane.{Lane}
 use Rattle.vk_port.specs.Journal.{first_number}

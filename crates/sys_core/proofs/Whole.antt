@@ -28,7 +28,7 @@ use Rattle.vk_port.specs.declared.steps.Stepped.{Stepped}
 use Rattle.vk_port.specs.declared.steps.Stepped.TheVariants.{Passed, Ran, Bumped, Free}
 use Rattle.vk_port.specs.After.{after_step, after_submit}
 use Rattle.vk_port.specs.Enabled.{enabled_steps}
-use Rattle.vk_port.specs.VkState.{VkState, lane_of}
+use Rattle.vk_port.specs.VkState.{VkState}
 use Rattle.vk_port.specs.VkState as vulkan
 use Rattle.sys_core.specs.Parts.{state_by, reply_by, device_by}
 use Rattle.d3d_machine.specs.Past.{last_of}

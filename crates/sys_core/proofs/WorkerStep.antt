@@ -7,17 +7,12 @@ use Rattle.std.specs.List.{slice_get}
 use Rattle.std.specs.Option.{option_map}
 use Rattle.std.specs.Prelude.{◌==◌, if◌then◌else◌}
 use Rattle.dx_base.specs.Lists.{changed_at}
-use Rattle.dx_base.specs.declared.hresult.Hresult.{Hresult}
 use Rattle.dx_base.proofs.Lists.{map_write}
 use Rattle.d3d_machine.specs.declared.world.World.{World}
-use Rattle.d3d_machine.specs.declared.calls.Call.{Call}
 use Rattle.d3d_machine.specs.declared.events.Operation.{Operation}
-use Rattle.d3d_machine.specs.declared.events.Operation.TheVariants as operation
 use Rattle.d3d_machine.specs.declared.events.Event.{Event}
-use Rattle.d3d_machine.specs.declared.events.Event.TheVariants as event
-use Rattle.d3d_machine.specs.State.{Desk, State, first_state}
-use Rattle.d3d_machine.specs.Replies.{refusal}
-use Rattle.d3d_machine.specs.Effects.{after, gathered}
+use Rattle.d3d_machine.specs.State.{State, first_state}
+use Rattle.d3d_machine.specs.Effects.{after}
 use Rattle.dx_base.specs.Effects.{At}
 use Rattle.d3d_machine.specs.CallEffects.{here_of}
 use Rattle.d3d_machine.specs.Operations.{operations, operations_from, event_gives, called_by}
