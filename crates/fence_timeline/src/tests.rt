@@ -1,7 +1,8 @@
 //! Waits on fences that rise, fall and are signalled by two queues.
 
 ghost use Rattle.std.specs.Prelude.{◌≡◌, ◌<◌, length, IfOk};
-ghost use Rattle.fence_timeline.specs.Tests.{IsWaitedFor};
+ghost use Rattle.fence_timeline.specs.Waits.{IsIn};
+ghost use Rattle.fence_timeline.specs.Tests.{IsWaitedFor, AreWaitedFor};
 
 use crate::{Fence, Target, Wait};
 use dx_base::{FenceId, Memory};
@@ -54,6 +55,15 @@ const RISES: [(Turn, Told); 4] = [
     (Turn::Host(4), (None, false, 4)),
     (Turn::Host(5), (BY_HOST, true, 5)),
     (Turn::Host(6), (BY_HOST, true, 6)),
+];
+
+/// A wait for 5 that is armed too late: the fence was at 5, and stands at 2.
+const TOO_LATE: [(Turn, Told); 5] = [
+    (Turn::Catch(0, 0), (None, false, 2)),
+    (Turn::Host(4), (None, false, 4)),
+    (Turn::Signal(5, 0, 1), (FIRST, false, 4)),
+    (Turn::Catch(1, 0), (FIRST, true, 5)),
+    (Turn::Host(1), (FIRST, true, 1)),
 ];
 
 fn signal(fence: &mut Fence, wait: &Wait, value: u64, queue: u32, at: u64) -> Result<(), Memory>
@@ -139,6 +149,80 @@ fn played(rt: &impl Abort, alloc: Global, rows: &[(Turn, Told)]) -> Result<(), M
     played
 }
 
+/// A fence that was at 5 and stands at 2, with a wait for 5.
+fn waiting_late(alloc: Global) -> Result<(Fence, Wait), Memory>
+    ensures { IfOk result (λ both. IsWaitedFor both.0 both.1) }
+{
+    let mut fence = Fence::new(alloc, FenceId(0), 5)?;
+    fence.host_signal(2)?;
+    let wait = fence.arm(5)?;
+    Ok((fence, wait))
+}
+
+fn played_late(rt: &impl Abort, alloc: Global) -> Result<(), Memory> {
+    let (mut fence, wait) = waiting_late(alloc)?;
+    let played = play(rt, &mut fence, &wait, &TOO_LATE);
+    drop(fence);
+    played
+}
+
+/// A fence at 0 with a wait for 3, and then one for 5.
+fn waiting_twice(alloc: Global) -> Result<(Fence, Wait, Wait), Memory>
+    ensures { IfOk result (λ all. AreWaitedFor all.0 all.1 all.2) }
+{
+    let mut fence = Fence::new(alloc, FenceId(0), 0)?;
+    let first = fence.arm(3)?;
+    let second = fence.arm(5)?;
+    Ok((fence, first, second))
+}
+
+fn signal_to_two(fence: &mut Fence, first: &Wait, second: &Wait, value: u64) -> Result<(), Memory>
+    requires { AreWaitedFor fence.old first.now second.now }
+    ensures { AreWaitedFor fence.new first.now second.now }
+{
+    fence.host_signal(value)?;
+    Ok(())
+}
+
+/// Whether the waits are met.
+fn are_met(fence: &Fence, first: &Wait, second: &Wait) -> (bool, bool)
+    requires { AreWaitedFor fence.now first.now second.now }
+{
+    (fence.met(first), fence.met(second))
+}
+
+fn let_go_of(fence: &mut Fence, first: Wait, second: &Wait)
+    requires { AreWaitedFor fence.old first second.now }
+    ensures { IsIn fence.new.armed second.now }
+{
+    fence.done(first);
+}
+
+/// The wait for 3 is met by 4 and let go of: that for 5 is met by 6 before, and after.
+fn one_ends(rt: &impl Abort, fence: &mut Fence, first: &Wait, second: &Wait) -> Result<(), Memory>
+    requires { AreWaitedFor fence.old first.now second.now }
+{
+    signal_to_two(fence, first, second, 4)?;
+    assert!(rt; are_met(fence, first, second) == (true, false));
+    signal_to_two(fence, first, second, 6)?;
+    signal_to_two(fence, first, second, 1)?;
+    assert!(rt; are_met(fence, first, second) == (true, true));
+    let_go_of(fence, *first, second);
+    assert!(rt; fence.met(second));
+    assert!(rt; fence.resolve(second) == BY_HOST);
+    assert!(rt; fence.value() == 1);
+    fence.done(*second);
+    assert!(rt; fence.value() == 1);
+    Ok(())
+}
+
+fn ended(rt: &impl Abort, alloc: Global) -> Result<(), Memory> {
+    let (mut fence, first, second) = waiting_twice(alloc)?;
+    let ended = one_ends(rt, &mut fence, &first, &second);
+    drop(fence);
+    ended
+}
+
 fn of_others(rt: &impl Abort, fence: &mut Fence) -> Result<(), Memory> {
     assert!(rt; fence.other_pending(0).is_none());
     fence.reserve()?;
@@ -175,6 +259,18 @@ fn a_later_signal_waits_for_an_earlier_one(rt: HostRuntime) -> Result<(), Fail> 
 #[test]
 fn a_wait_is_met_by_the_value_that_it_waits_for(rt: HostRuntime) -> Result<(), Fail> {
     played(&rt, rt.alloc(), &RISES)?;
+    Ok(())
+}
+
+#[test]
+fn a_wait_armed_too_late_is_met_by_a_later_update(rt: HostRuntime) -> Result<(), Fail> {
+    played_late(&rt, rt.alloc())?;
+    Ok(())
+}
+
+#[test]
+fn letting_go_of_a_wait_leaves_the_other(rt: HostRuntime) -> Result<(), Fail> {
+    ended(&rt, rt.alloc())?;
     Ok(())
 }
 
