@@ -2,6 +2,7 @@
 # whose command is `rt`.
 
 PROGRAM := crates/d3dsim/out/d3dsim
+FENCES := crates/fence_costs/out/fence_costs
 
 .PHONY: help demo prove test profile bench docs toolchain
 
@@ -10,7 +11,7 @@ help:
 	@echo "make prove     prove the crates and build $(PROGRAM); a quarter of an hour and more"
 	@echo "make test      the whole gate: every proof, edit, test, program, example and document; an hour and more"
 	@echo "make profile   the gate from nothing, with its processor minutes by crate; an hour and more"
-	@echo "make bench     how time grows with the trace, on the proved program"
+	@echo "make bench     how time grows with the trace, and with signals and waits, on the proved programs"
 	@echo "make docs      write again what of the documents is made from the crates"
 	@echo "make help      these lines"
 
@@ -31,7 +32,7 @@ profile: toolchain
 	tools/profile
 
 # Measures; time is no part of the gate.
-bench: toolchain $(PROGRAM)
+bench: toolchain $(PROGRAM) $(FENCES)
 	bench/run
 
 # Writes docs/DEFINITIONS.md and the ledger of docs/TESTING.md.
@@ -49,4 +50,8 @@ toolchain:
 # Only a proved program is built: `rt run` proves each crate below it, lowest first.
 $(PROGRAM): $(shell find crates -path '*/out' -prune -o -type f \( -name '*.rt' -o -name '*.antt' \) -print 2>/dev/null) crates.txt | toolchain
 	cd crates/d3dsim && rt run < stdin > /dev/null
+	@test -x $@ && touch $@
+
+$(FENCES): $(shell find crates/dx_base crates/fence_timeline crates/fence_costs -path '*/out' -prune -o -type f \( -name '*.rt' -o -name '*.antt' \) -print 2>/dev/null) crates.txt | toolchain
+	cd crates/fence_costs && rt run -- rise 8 > /dev/null
 	@test -x $@ && touch $@

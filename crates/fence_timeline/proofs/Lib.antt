@@ -8,4 +8,5 @@ pub mod OrderedWaits
 pub mod KeptFence
 pub mod FenceCalls
 pub mod FenceLaws
+pub mod PendingCalls
 pub mod TestLemmas

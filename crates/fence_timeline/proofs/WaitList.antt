@@ -1,5 +1,5 @@
 -- Waits with rising numbers.
-use Rattle.std.proofs.Common.{ℕ, zero, suc, ◌≡◌, ◌≤◌, ◌<◌, ◌+◌, ◌∙◌, ap, sym, subst, List, [], ◌∷◌, ◌++◌, length, get_or, slice_get, Option, Some, Bool, true, false, cond, arith}
+use Rattle.std.proofs.Common.{ℕ, zero, suc, ◌≡◌, ◌≤◌, ◌<◌, ◌+◌, ◌∙◌, refl, ap, sym, subst, List, [], ◌∷◌, ◌++◌, length, get_or, slice_get, Option, Some, Bool, true, false, cond, arith}
 use Rattle.std.specs.Prelude.{nat_lt, ◌==◌, if◌then◌else◌, OnSome}
 use Rattle.std.specs.List.{prefix_len, remove}
 use Rattle.std.specs.List.Sorted.{IsPartitionedBy, IsPartitionPoint}
@@ -131,3 +131,18 @@ removed_is ws new w next place r is armed at some gone =
     let now : OnSome (Some (get_or ws place no_wait)) (new ≡ remove ws place) = subst (λ (o : Option Wait). OnSome o (new ≡ remove ws place)) got gone in
     let same : new ≡ remove ws place = now in
     same ∙ ap (remove ws) at ∙ taken_out ws w next is armed
+
+-- a wait behind the others is one of all
+pub stands_behind : (ws : List Wait) (w : Wait) → slice_get (ws ++ w ∷ []) (length ws) ≡ Some w
+stands_behind [] w = refl
+stands_behind (x ∷ ws) w = stands_behind ws w
+
+-- and where its number is greater, the others are left without it
+pub without_behind : (ws : List Wait) (w : Wait) → Each (λ x. x.number < w.number) ws → without w.number (ws ++ w ∷ []) ≡ ws
+without_behind [] w below =
+    let at : (w.number == w.number) ≡ true = grind (arith, nat_tests) in
+    ap (λ b. if b then [] else w ∷ []) at
+without_behind (x ∷ ws) w below =
+    let less : x.number < w.number = below.0 in
+    let other : (x.number == w.number) ≡ false = grind (arith, nat_tests) in
+    ap (λ b. if b then ws ++ w ∷ [] else x ∷ without w.number (ws ++ w ∷ [])) other ∙ ap (λ xs. x ∷ xs) (without_behind ws w below.1)
