@@ -3,6 +3,7 @@
 
 PROGRAM := crates/d3dsim/out/d3dsim
 FENCES := crates/fence_costs/out/fence_costs
+COMMANDS := crates/vk_costs/out/vk_costs
 
 .PHONY: help demo prove test profile bench docs toolchain
 
@@ -11,7 +12,7 @@ help:
 	@echo "make prove     prove the crates and build $(PROGRAM); a quarter of an hour and more"
 	@echo "make test      the whole gate: every proof, edit, test, program, example and document; an hour and more"
 	@echo "make profile   the gate from nothing, with its processor minutes by crate; an hour and more"
-	@echo "make bench     how time grows with the trace, and with signals and waits, on the proved programs"
+	@echo "make bench     how time grows with the trace, with signals and waits, and with commands, on the proved programs"
 	@echo "make docs      write again what of the documents is made from the crates"
 	@echo "make help      these lines"
 
@@ -32,7 +33,7 @@ profile: toolchain
 	tools/profile
 
 # Measures; time is no part of the gate.
-bench: toolchain $(PROGRAM) $(FENCES)
+bench: toolchain $(PROGRAM) $(FENCES) $(COMMANDS)
 	bench/run
 
 # Writes docs/DEFINITIONS.md and the ledger of docs/TESTING.md.
@@ -54,4 +55,8 @@ $(PROGRAM): $(shell find crates -path '*/out' -prune -o -type f \( -name '*.rt' 
 
 $(FENCES): $(shell find crates/dx_base crates/fence_timeline crates/fence_costs -path '*/out' -prune -o -type f \( -name '*.rt' -o -name '*.antt' \) -print 2>/dev/null) crates.txt | toolchain
 	cd crates/fence_costs && rt run -- rise 8 > /dev/null
+	@test -x $@ && touch $@
+
+$(COMMANDS): $(shell find crates/dx_base crates/dx_flags crates/vk_types crates/routines crates/vk_sync_rules crates/vk_costs -path '*/out' -prune -o -type f \( -name '*.rt' -o -name '*.antt' \) -print 2>/dev/null) crates.txt | toolchain
+	cd crates/vk_costs && rt run -- apart 40 > /dev/null
 	@test -x $@ && touch $@

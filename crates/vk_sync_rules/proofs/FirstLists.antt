@@ -1,5 +1,5 @@
 -- The lists that a machine begins with.
-use Rattle.std.proofs.Common.{ℕ, zero, suc, ◌≡◌, ◌<◌, ◌+◌, ◌-◌, ◌∙◌, refl, sym, ap, List, [], ◌∷◌, ◌++◌, map, replicate, add-one, arith}
+use Rattle.std.proofs.Common.{ℕ, zero, suc, ◌≡◌, ◌<◌, ◌+◌, ◌-◌, ◌∙◌, ap, [], ◌∷◌, ◌++◌, map, replicate, add-one, arith}
 use Rattle.std.proofs.lemmas.List.{map-append}
 use Rattle.vk_sync_rules.specs.Numbers.{up_to}
 use Rattle.vk_sync_rules.specs.VkState.{first_queues, first_counts}

@@ -1,5 +1,6 @@
 -- What was made never shrinks.
-use Rattle.std.proofs.Common.{◌≡◌, ℕ, Bool, true, false, ◌&&◌, ◌||◌, List, [], ◌∷◌, ◌++◌, map, refl, subst, Option, Some, None}
+use Rattle.std.proofs.Common.{◌≡◌, ℕ, Bool, true, false, ◌&&◌, ◌||◌, List, [], ◌∷◌, ◌++◌, map, refl, subst, Option, Some, None, if◌then◌else◌}
+use Rattle.std.proofs.lemmas.List.Folds.{list_any-append}
 use Rattle.std.proofs.lemmas.Bool.{or_left, or_right}
 use Rattle.vk_types.specs.declared.accesses.Accesses.{Accesses}
 use Rattle.vk_types.specs.declared.commands.VkCommand.{VkCommand}
@@ -7,9 +8,9 @@ use Rattle.vk_types.specs.declared.commands.VkCommand.TheVariants.{Barrier, Copy
 use Rattle.vk_types.specs.declared.stages.Stages.{Stages}
 use Rattle.vk_types.specs.declared.steps.VkStep.{VkStep}
 use Rattle.vk_types.specs.declared.steps.VkStep.TheVariants.{Submit, Pass, Command, Bump, HostWrite, HostRead, Update}
-use Rattle.vk_sync_rules.specs.AccessSets.{share}
-use Rattle.vk_sync_rules.specs.DoneAccesses.{after_bump, after_submit, avail, covers, gain, gain_where, gives_order, in_scope, is_covered, is_ended, is_made_available, is_host, ordered, reaches, sees}
-use Rattle.vk_sync_rules.specs.Growth.{GainsAdd, Grows, Keeps}
+use Rattle.vk_sync_rules.specs.AccessSets.{all_accesses, all_stages, share}
+use Rattle.vk_sync_rules.specs.DoneAccesses.{after_bump, after_submit, avail, covers, gain, gain_where, gives_order, in_scope, is_covered, is_ended, is_made_available, is_host, ordered, reaches, sees, start_of}
+use Rattle.vk_sync_rules.specs.Growth.{EndsSignal, GainsAdd, Grows, Keeps}
 use Rattle.vk_sync_rules.specs.NextState.{after_run, kept_by}
 use Rattle.vk_sync_rules.specs.Rules.{after_step, after_steps}
 use Rattle.vk_sync_rules.specs.VkState.{VkState, command_at}
@@ -20,6 +21,25 @@ use Rattle.vk_sync_rules.specs.declared.places.Place.{Place}
 -- a gain adds its scope
 pub gains_add : (g : Gain) (r : DoneAccess) → GainsAdd g r
 gains_add g r = record { order = λ q stages p. refl; reach = λ q stages p. refl; sight = λ q stages accesses p. refl }
+
+-- the end of a batch adds what it sets
+signal_where : (t : Bool) (sets waits : List (ℕ × ℕ)) (r : DoneAccess) →
+    is_covered waits (if t then record r { signals = sets ++ r.signals; available = r.available || r.writes } else r).signals ≡ ((t && is_covered waits sets) || is_covered waits r.signals)
+signal_where true sets waits r = list_any-append (covers waits) sets r.signals
+signal_where false sets waits r = refl
+
+-- a scope that is gained signals nothing
+gain_signals : (t : Bool) (q : ℕ) (p : Place) (to : Stages) (seen : Accesses) (r : DoneAccess) → (gain_where t q p to seen r).signals ≡ r.signals
+gain_signals true q p to seen r = refl
+gain_signals false q p to seen r = refl
+
+pub ends_signal : (r : DoneAccess) → EndsSignal r
+ends_signal r = record {
+  bump = λ q n sets waits. signal_where (is_ended q n r) sets waits r;
+  pass = λ q n waits. gain_signals (is_covered waits r.signals) q (start_of n) all_stages all_accesses r;
+  submit = λ q n. gain_signals (is_host r) q (start_of n) all_stages all_accesses r;
+  barrier = λ q p from made to seen. gain_signals (in_scope q from p r) q p to seen (avail (is_made_available q p from made r) r);
+}
 
 -- an access as it is
 pub grows_same : (r : DoneAccess) → Grows r r

@@ -1,5 +1,5 @@
 -- How look-ups in a journal go on by one batch or command.
-use Rattle.std.proofs.Common.{ℕ, zero, suc, arith, ◌≡◌, ◌<◌, ◌+◌, ◌∙◌, refl, sym, ap, Bool, true, false, ◌==◌, ◌&&◌, ◌||◌, List, [], ◌∷◌, ◌++◌, length, get_or, drop, slice_get, Option, Some, None, if◌then◌else◌}
+use Rattle.std.proofs.Common.{ℕ, zero, suc, arith, ◌≡◌, ◌<◌, ◌+◌, ◌∙◌, refl, sym, ap, Bool, true, false, ◌==◌, ◌&&◌, List, [], ◌∷◌, length, get_or, drop, slice_get, Some, if◌then◌else◌}
 use Rattle.std.specs.List.{list_all}
 use Rattle.std.proofs.lemmas.List.Folds.{list_all-append}
 use Rattle.vk_types.specs.declared.batches.Batch.{Batch}

@@ -1,5 +1,5 @@
 -- The last write among one access more.
-use Rattle.std.proofs.Common.{ℕ, ◌≡◌, ◌∙◌, refl, sym, ap, Bool, true, false, ◌&&◌, List, [], ◌∷◌, ◌++◌, ◌+◌, ◌<◌, length, get_or, take, Option, Some, None, if◌then◌else◌}
+use Rattle.std.proofs.Common.{ℕ, ◌≡◌, ◌∙◌, refl, sym, ap, Bool, true, false, ◌&&◌, List, [], ◌∷◌, ◌++◌, ◌+◌, ◌<◌, length, get_or, take, Some, None, if◌then◌else◌}
 use Rattle.std.proofs.lemmas.List.{take_more}
 use Rattle.vk_sync_rules.specs.declared.accesses.DoneAccess.{DoneAccess}
 use Rattle.vk_sync_rules.specs.declared.ranges.VkResource.{VkResource}

@@ -20,3 +20,4 @@ pub mod Entries
 pub mod Timelines
 pub mod KnownBatches
 pub mod HostAccesses
+pub mod PieceSteps

@@ -1,5 +1,5 @@
 -- How loops over words go on.
-use Rattle.std.proofs.Common.{ℕ, zero, suc, ◌≡◌, ◌<◌, ◌+◌, ◌-◌, ◌∙◌, refl, sym, ap, List, [], ◌∷◌, Bool, ◌&&◌, arith}
+use Rattle.std.proofs.Common.{ℕ, suc, ◌≡◌, ◌<◌, ◌+◌, ◌-◌, ◌∙◌, ap, [], ◌∷◌, Bool, ◌&&◌, arith}
 use Rattle.std.specs.List.{list_all}
 use Rattle.vk_sync_rules.specs.Numbers.{up_to}
 

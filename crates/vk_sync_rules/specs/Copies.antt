@@ -1,22 +1,15 @@
 -- The rows that copies copy.
-use Rattle.std.specs.Prelude.{ℕ, ◌+◌, ◌*◌, List, [], ◌∷◌, map, Option, Some, None}
+use Rattle.std.specs.Prelude.{ℕ, ◌+◌, ◌*◌, List, [], ◌∷◌, map, Some, None}
 use Rattle.vk_types.specs.declared.commands.VkCommand.{VkCommand}
 use Rattle.vk_types.specs.declared.commands.VkCommand.TheVariants.{Barrier, Copy, CopyImage, CopyIn, CopyOut, Clear, Dispatch}
-use Rattle.vk_types.specs.declared.layouts.VkLayout.{VkLayout}
 use Rattle.vk_sync_rules.specs.declared.ranges.VkResource.TheVariants.{Buffer, Image}
 use Rattle.vk_sync_rules.specs.declared.ranges.WordRange.{WordRange}
+pub use Rattle.vk_sync_rules.specs.declared.copies.CopiedRow.{CopiedRow}
 use Rattle.vk_sync_rules.specs.AccessSets.{no_accesses, copy_reads, copy_writes}
 use Rattle.vk_sync_rules.specs.Numbers.{up_to}
 use Rattle.vk_sync_rules.specs.Pieces.{Piece}
 use Rattle.vk_sync_rules.specs.Sizes.{row_count_of, row_words_of, words_in}
 use Rattle.vk_types.specs.declared.plan.DevicePlan.{DevicePlan}
-
--- a row of a copy: its words on both sides, and the layouts that the copy names for images
-pub record CopiedRow : Type 0 where
-  pub from : WordRange
-  pub from_layout : Option VkLayout
-  pub to : WordRange
-  pub to_layout : Option VkLayout
 
 -- one row between a buffer and an image, whose rows in the buffer begin at a word and lie a pitch apart
 abbrev pub row_of_buffer : ℕ → ℕ → ℕ → ℕ → ℕ → WordRange

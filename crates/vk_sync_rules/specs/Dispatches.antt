@@ -14,6 +14,7 @@ use Rattle.vk_types.specs.declared.registers.Register.{Register}
 use Rattle.vk_types.specs.declared.registers.Register.TheVariants.{Unbound, Constant, Root, Fixed, Slot}
 use Rattle.vk_sync_rules.specs.declared.ranges.VkResource.TheVariants.{Buffer}
 use Rattle.vk_sync_rules.specs.declared.ranges.WordRange.{WordRange}
+pub use Rattle.vk_sync_rules.specs.declared.dispatches.DispatchViews.{DispatchViews}
 use Rattle.vk_sync_rules.specs.AccessSets.{no_accesses, shader_reads, uniform_reads, storage_reads, storage_writes}
 use Rattle.vk_sync_rules.specs.Numbers.{Numbers, numbers_in, stored}
 use Rattle.vk_sync_rules.specs.Registers.{words_of_register}
@@ -21,12 +22,6 @@ use Rattle.vk_types.specs.declared.plan.DevicePlan.{DevicePlan}
 use Rattle.vk_sync_rules.specs.Pieces.{Piece}
 
 -- the views of the registers of a dispatch
-pub record DispatchViews : Type 0 where
-  pub t0 : Option WordRange
-  pub t1 : Option WordRange
-  pub u0 : Option WordRange
-  pub b0 : Option WordRange
-
 abbrev pub views_of : DevicePlan → (ℕ × ℕ → ℕ) → Register → Register → Register → Register → DispatchViews
 views_of plan answers t0 t1 u0 b0 = record {
   t0 = words_of_register plan answers Srv t0;

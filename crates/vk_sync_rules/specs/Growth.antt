@@ -7,7 +7,7 @@ use Rattle.vk_sync_rules.specs.declared.accesses.DoneAccess.{DoneAccess}
 use Rattle.vk_sync_rules.specs.declared.accesses.Gain.{Gain}
 use Rattle.vk_sync_rules.specs.declared.places.Place.{Place}
 use Rattle.vk_sync_rules.specs.AccessSets.{share}
-use Rattle.vk_sync_rules.specs.DoneAccesses.{gives_order, gain, ordered, sees, reaches, is_covered}
+use Rattle.vk_sync_rules.specs.DoneAccesses.{across, after_bump, after_pass, after_submit, gives_order, gain, ordered, sees, reaches, is_covered, is_ended}
 use Rattle.vk_sync_rules.specs.Rules.{after_steps}
 use Rattle.vk_sync_rules.specs.VkState.{VkState}
 
@@ -20,6 +20,18 @@ pub record GainsAdd (g : Gain) (r : DoneAccess) : Type 0 where
 
 abbrev pub GainsAddScopes : Type 0
 GainsAddScopes = (g : Gain) (r : DoneAccess) → GainsAdd g r
+
+-- what signals an access: the ends of batches alone. The end of a batch that covers it adds what the batch sets, and takes
+-- nothing away (Vulkan 1.3, 7.4.1: semaphore signaling)
+pub record EndsSignal (r : DoneAccess) : Type 0 where
+  pub bump : (q n : ℕ) (sets waits : List (ℕ × ℕ)) →
+      is_covered waits (after_bump q n sets r).signals ≡ ((is_ended q n r && is_covered waits sets) || is_covered waits r.signals)
+  pub pass : (q n : ℕ) (waits : List (ℕ × ℕ)) → (after_pass q n waits r).signals ≡ r.signals
+  pub submit : (q n : ℕ) → (after_submit q n r).signals ≡ r.signals
+  pub barrier : (q : ℕ) (p : Place) (from : Stages) (made : Accesses) (to : Stages) (seen : Accesses) → (across q p from made to seen r).signals ≡ r.signals
+
+abbrev pub EndsSignalAccesses : Type 0
+EndsSignalAccesses = (r : DoneAccess) → EndsSignal r
 
 -- an access, later: what was ordered after it and saw it still is and does
 pub record Grows (r s : DoneAccess) : Type 0 where

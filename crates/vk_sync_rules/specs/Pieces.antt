@@ -1,22 +1,14 @@
 -- The words that a command touches, piece by piece.
-use Rattle.std.specs.Prelude.{◌+◌, Bool, true, false, ◌&&◌, ◌||◌, not, ◌==◌, nat_lt, List, [], ◌∷◌, ◌++◌, Option, Some, if◌then◌else◌}
+use Rattle.std.specs.Prelude.{◌+◌, Bool, true, false, ◌&&◌, ◌||◌, not, ◌==◌, nat_lt, List, [], ◌∷◌, ◌++◌, Some, if◌then◌else◌}
 use Rattle.std.specs.List.{flat_map}
 use Rattle.vk_types.specs.declared.accesses.Accesses.{Accesses}
-use Rattle.vk_types.specs.declared.layouts.VkLayout.{VkLayout}
 use Rattle.vk_sync_rules.specs.declared.accesses.DoneAccess.{DoneAccess}
 use Rattle.vk_sync_rules.specs.declared.accesses.Maker.{Maker}
 use Rattle.vk_sync_rules.specs.declared.ranges.WordRange.{WordRange}
+pub use Rattle.vk_sync_rules.specs.declared.pieces.Piece.{Piece}
 use Rattle.vk_sync_rules.specs.AccessSets.{is_some_access}
 use Rattle.vk_sync_rules.specs.Sizes.{words_in, is_there}
 use Rattle.vk_types.specs.declared.plan.DevicePlan.{DevicePlan}
-
--- a row of a copy, or a register: its words, and how it reads and writes them; no accesses where it does not
-pub record Piece : Type 0 where
-  pub range : WordRange
-  pub reads : Accesses
-  pub writes : Accesses
-  -- the layout that a copy names for an image
-  pub named : Option VkLayout
 
 -- a piece writes
 abbrev pub does_write : Piece → Bool

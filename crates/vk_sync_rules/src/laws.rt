@@ -4,7 +4,7 @@ ghost use Rattle.vk_sync_rules.specs.Barriers.{BarriersClear, BarriersShow, Stay
 ghost use Rattle.vk_sync_rules.specs.BatchEnds.{StaysEnded, StaysPassed};
 ghost use Rattle.vk_sync_rules.specs.Entries.{EarlierEnter, EnteredAreCovered, EnteredStay, HostEnters, WaitsEnter};
 ghost use Rattle.vk_sync_rules.specs.FirstState.{DevicesBegin, FirstBegins};
-ghost use Rattle.vk_sync_rules.specs.Growth.{GainsAddScopes, NothingShrinks};
+ghost use Rattle.vk_sync_rules.specs.Growth.{EndsSignalAccesses, GainsAddScopes, NothingShrinks};
 ghost use Rattle.vk_sync_rules.specs.HostAccesses.{HostReadsSee, SubmissionsHost};
 ghost use Rattle.vk_sync_rules.specs.Knowledge.{SeenGoesOn, SeenKeeps, SeenSplits};
 ghost use Rattle.vk_sync_rules.specs.LastWrites.{LastWritesAreLast};
@@ -30,6 +30,12 @@ pub fn rows_compute()
 #[tactic(auto, using(crate::proofs::Growth::gains_add))]
 pub fn gains_add_scopes()
     ensures { GainsAddScopes }
+{}
+
+/// The ends of batches alone signal an access, with what their batches set.
+#[tactic(auto, using(crate::proofs::Growth::ends_signal))]
+pub fn ends_signal_accesses()
+    ensures { EndsSignalAccesses }
 {}
 
 /// What was ordered after an access, saw it or was signalled by it stays so, whatever steps are taken.

@@ -27,7 +27,9 @@ fn work(stage: Stages) -> CommandSort
 
 /// The sort of a command.
 pub(crate) fn sort_of(command: VkCommand) -> CommandSort
-    ensures { sort_in result ≡ sort command }
+    ensures sort { sort_in result ≡ sort command }
+    ensures takes { result.takes ≡ (sort command).takes }
+    ensures gives { result.gives ≡ (sort command).gives }
 {
     match command {
         VkCommand::Barrier { from, to, .. } => CommandSort {

@@ -66,7 +66,7 @@ fn gained(
 }
 
 /// An access after a barrier at a place of a queue.
-fn crossed(
+pub(crate) fn crossed(
     alloc: Global,
     access: &DoneAccess,
     queue: u32,

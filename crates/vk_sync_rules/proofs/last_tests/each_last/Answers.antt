@@ -1,5 +1,5 @@
 -- The word at the place, and those behind it.
-use Rattle.std.proofs.Common.{◌≡◌, ◌∙◌, ◌+◌, sym, true, false, arith}
+use Rattle.std.proofs.Common.{◌≡◌, ◌∙◌, sym, true, false, arith}
 use Rattle.vk_sync_rules.specs.DoneAccesses.{last_write}
 use Rattle.vk_sync_rules.specs.Rules.{of_each}
 use Rattle.vk_sync_rules.proofs.JournalSteps.{all_stop, all_go}

@@ -1,5 +1,5 @@
 -- The words so far do.
-use Rattle.std.proofs.Common.{◌≡◌, ◌+◌, ◌-◌, ◌≤◌}
+use Rattle.std.proofs.Common.{◌≡◌, ◌+◌, ◌-◌}
 use Rattle.std.specs.List.{list_all}
 use Rattle.vk_sync_rules.specs.DoneAccesses.{last_write}
 use Rattle.vk_sync_rules.specs.Numbers.{up_to}

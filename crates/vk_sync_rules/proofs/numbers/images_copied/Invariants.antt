@@ -1,0 +1,6 @@
+-- The images so far.
+use Rattle.std.proofs.Common.{◌≡◌, take}
+use Rattle.vk_sync_rules.proofs.numbers.images_copied.Given as goal
+
+abbrev pub invariant-loop-image : goal.invariant-loop-image
+invariant-loop-image l = l.copy ≡ take l.image-index l.images
