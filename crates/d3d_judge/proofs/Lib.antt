@@ -13,3 +13,10 @@ pub mod Replies
 pub mod Tables
 pub mod Thresholds
 pub mod Pending
+pub mod CarriedClocks
+pub mod ActorTables
+pub mod SubTables
+pub mod WordTouches
+pub mod ClockSizes
+pub mod TableShapes
+pub mod CoverPlaces

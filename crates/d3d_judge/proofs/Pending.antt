@@ -18,7 +18,7 @@ use Rattle.d3d_machine.specs.Play.{state_after}
 use Rattle.d3d_machine.specs.Replies.{refusal}
 use Rattle.d3d_machine.specs.State.{Desk, State, first_state}
 use Rattle.d3d_judge.specs.Carried.{item_or, Clocks, Pending, effect, called_by, call_clock, head, head_of, completed, carried, carried_all, first_clocks, clocks_after}
-use Rattle.d3d_judge.specs.Happenings.{Work, Deed, unless_refused, deed_of, work_of, happening_of, happenings_from, happenings}
+use Rattle.d3d_judge.specs.Happenings.{Work, unless_refused, deed_of, work_of, happening_of, happenings_from}
 
 abbrev works : List (List Pending) → List (List Work)
 works xs = map (map (λ p. p.what)) xs

@@ -104,14 +104,14 @@ any_none : (n : ℕ) (f : ℕ → Bool) → ((q : ℕ) → f q ≡ false) → an
 any_none zero f h = refl
 any_none (suc n) f h = rw (h n) (any_none n f h)
 
-any_same : (n : ℕ) (f g : ℕ → Bool) → ((q : ℕ) → f q ≡ g q) → any_below n f ≡ any_below n g
+pub any_same : (n : ℕ) (f g : ℕ → Bool) → ((q : ℕ) → f q ≡ g q) → any_below n f ≡ any_below n g
 any_same zero f g h = refl
 any_same (suc n) f g h = rw (h n) (ap (λ t. g n || t) (any_same n f g h))
 
-is_same : (p q : ℕ) → p ≡ q → (p == q) ≡ true
+pub is_same : (p q : ℕ) → p ≡ q → (p == q) ≡ true
 is_same p q e = grind (arith, e)
 
-is_other : (p q : ℕ) → (p ≡ q → ⊥) → (p == q) ≡ false
+pub is_other : (p q : ℕ) → (p ≡ q → ⊥) → (p == q) ≡ false
 is_other p q n = grind (arith, n)
 
 any_past : (n p : ℕ) (g : ℕ → Bool) → n ≤ p → any_below n (λ q. (p == q) && g q) ≡ false
@@ -174,15 +174,21 @@ each_queue n clock (m ∷ ms) t o =
     (ap (λ y. any_below n (λ q. conflicts_in (is_of_queue q) t.doing t.range.resource t.range.sub m
     && (shares m.range t.range && not (nat_le (number_of m.act) (number clock.queues q)))) || y) (each_queue n clock ms t o.1))
 
+-- B1 by the numbers of each queue that are not known
+pub queue_tells : (n : ℕ) (clock : Clock) (made : List Touch) (t : Touch) → OfQueues n made →
+    breaks_one clock made t ≡ any_below n (λ q. unknown_in (conflicts_in (is_of_queue q) t.doing t.range.resource t.range.sub) (number clock.queues q) t.range made)
+queue_tells n clock made t o =
+    each_queue n clock made t o
+    ∙ swap_any n (λ q m. conflicts_in (is_of_queue q) t.doing t.range.resource t.range.sub m
+    && (shares m.range t.range && not (nat_le (number_of m.act) (number clock.queues q)))) made
+
 pub queue_tables_tell : (n words : ℕ) (clock : Clock) (made : List Touch) (t : Touch) → OfQueues n made →
     ((q : ℕ) → AllInside (conflicts_in (is_of_queue q) t.doing t.range.resource t.range.sub) words made) →
     breaks_one clock made t ≡ any_below n (queue_unknown words clock made t)
 queue_tables_tell n words clock made t o i =
-    each_queue n clock made t o
-    ∙ (swap_any n (λ q m. conflicts_in (is_of_queue q) t.doing t.range.resource t.range.sub m
-    && (shares m.range t.range && not (nat_le (number_of m.act) (number clock.queues q)))) made
+    queue_tells n clock made t o
     ∙ any_same n _ (queue_unknown words clock made t)
-    (λ q. tie (conflicts_in (is_of_queue q) t.doing t.range.resource t.range.sub) (number clock.queues q) t.range made words (i q)))
+    (λ q. tie (conflicts_in (is_of_queue q) t.doing t.range.resource t.range.sub) (number clock.queues q) t.range made words (i q))
 
 -- one touch, by the thread that it is of
 by_thread : (n : ℕ) (clock : Clock) (t : Touch) (a : Act) (m : Touch) → m.act ≡ a → ((q k : ℕ) → a ≡ OfThread q k → q < n) →
@@ -206,12 +212,18 @@ each_thread n clock (m ∷ ms) t o =
     (ap (λ y. any_below n (λ q. conflicts_in (is_of_thread q) t.doing t.range.resource t.range.sub m
     && (shares m.range t.range && not (nat_le (number_of m.act) (number clock.threads q)))) || y) (each_thread n clock ms t o.1))
 
+-- B10 by the numbers of each thread that are not known
+pub thread_tells : (n : ℕ) (clock : Clock) (made : List Touch) (t : Touch) → OfThreads n made →
+    breaks_ten clock made t ≡ any_below n (λ q. unknown_in (conflicts_in (is_of_thread q) t.doing t.range.resource t.range.sub) (number clock.threads q) t.range made)
+thread_tells n clock made t o =
+    each_thread n clock made t o
+    ∙ swap_any n (λ q m. conflicts_in (is_of_thread q) t.doing t.range.resource t.range.sub m
+    && (shares m.range t.range && not (nat_le (number_of m.act) (number clock.threads q)))) made
+
 pub thread_tables_tell : (n words : ℕ) (clock : Clock) (made : List Touch) (t : Touch) → OfThreads n made →
     ((q : ℕ) → AllInside (conflicts_in (is_of_thread q) t.doing t.range.resource t.range.sub) words made) →
     breaks_ten clock made t ≡ any_below n (thread_unknown words clock made t)
 thread_tables_tell n words clock made t o i =
-    each_thread n clock made t o
-    ∙ (swap_any n (λ q m. conflicts_in (is_of_thread q) t.doing t.range.resource t.range.sub m
-    && (shares m.range t.range && not (nat_le (number_of m.act) (number clock.threads q)))) made
+    thread_tells n clock made t o
     ∙ any_same n _ (thread_unknown words clock made t)
-    (λ q. tie (conflicts_in (is_of_thread q) t.doing t.range.resource t.range.sub) (number clock.threads q) t.range made words (i q)))
+    (λ q. tie (conflicts_in (is_of_thread q) t.doing t.range.resource t.range.sub) (number clock.threads q) t.range made words (i q))

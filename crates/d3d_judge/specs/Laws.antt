@@ -10,6 +10,7 @@ use Rattle.d3d_machine.specs.declared.events.Event.{Event}
 use Rattle.d3d_machine.specs.declared.events.Event.TheVariants as event
 use Rattle.d3d_machine.specs.declared.world.World.{World}
 use Rattle.d3d_machine.specs.Play.{state_after}
+use Rattle.d3d_machine.specs.RightWords.{with_right_words}
 use Rattle.d3d_judge.specs.Made.{touches_of, made_from}
 use Rattle.d3d_judge.specs.declared.rules.Rule.{Rule}
 use Rattle.d3d_judge.specs.declared.rules.Verdict.TheVariants.{Clean, Broken}
@@ -68,6 +69,11 @@ BrokenStays = (w : World) (h more : List Event) (r : Rule) (n : ℕ) → judge w
 -- no reply plays a part, and so no word that was read
 abbrev pub RepliesPlayNoPart : Type 0
 RepliesPlayNoPart = (w : World) (h : List Event) (r : Reply) → judge w (map (with_reply r) h) ≡ judge w h
+
+-- with the words that the machine gives a history has the same clocks, and the same is said of it
+pub record RightWordsPlayNoPart : Type 0 where
+  pub clocks : (w : World) (h : List Event) → clocks_after w (with_right_words w h) ≡ clocks_after w h
+  pub verdict : (w : World) (h : List Event) → judge w (with_right_words w h) ≡ judge w h
 
 -- what holds of scopes in each setting, with whatever was made before
 abbrev pub OfScopes : (Setting → List Touch → Clock → Act → Type 0) → Type 0

@@ -1,3 +1,4 @@
+pub mod Rules
 pub mod Commands
 pub mod Happenings
 pub mod Carried
@@ -12,3 +13,8 @@ pub mod Laws
 pub mod Rows
 pub mod Tables
 pub mod Thresholds
+pub mod CarriedClocks
+pub mod ActorTables
+pub mod SubTables
+pub mod WordTouches
+pub mod CoverPlaces

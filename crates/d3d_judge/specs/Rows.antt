@@ -1,5 +1,5 @@
 -- Worked rows: small runs that break a rule, or just keep it.
-use Rattle.std.specs.Prelude.{ℕ, List, [], ◌∷◌, ◌++◌, map, true, false, Some, None}
+use Rattle.std.specs.Prelude.{ℕ, List, [], ◌∷◌, ◌++◌, map, true, false, Option, Some, None}
 use Rattle.dx_base.specs.declared.kinds.Home.{Home}
 use Rattle.dx_base.specs.declared.kinds.Home.TheVariants as home
 use Rattle.dx_base.specs.declared.kinds.ListType.TheVariants as type
@@ -178,9 +178,13 @@ from_readback = records 0 (copy 0 d 0 b 0 16 ∷ []) ++ (calls 0 (execute 0 0) �
 
 -- Runs with barriers and textures, by what happens in them
 
--- the resources of the small world, and an enhanced texture x of 4 by 4 words in layout COMMON
+-- the resources of the small world, an enhanced texture x of 4 by 4 words, and one y of two subresources of that size, both in layout
+-- COMMON
 abbrev pub x : ℕ
 x = 4
+
+abbrev pub y : ℕ
+y = 5
 
 abbrev pub buffer : Home → ℕ → Traits
 buffer h words = record { home = h; texture = false; shared = false; start = layout.Common; subs = words ∷ [] }
@@ -189,7 +193,8 @@ abbrev pub texture_setting : Setting
 texture_setting = record {
   clocks = first_clocks small_world;
   resources = buffer home.Upload 256 ∷ buffer home.Readback 256 ∷ buffer home.Enhanced 4 ∷ buffer home.Enhanced 4
-      ∷ (record { home = home.Enhanced; texture = true; shared = false; start = layout.Common; subs = 16 ∷ [] }) ∷ [];
+      ∷ (record { home = home.Enhanced; texture = true; shared = false; start = layout.Common; subs = 16 ∷ [] })
+      ∷ (record { home = home.Enhanced; texture = true; shared = false; start = layout.Common; subs = 16 ∷ 16 ∷ [] }) ∷ [];
 }
 
 abbrev pub words_of : ℕ → ℕ → ℕ → Range
@@ -211,7 +216,17 @@ abbrev pub out_of_x : Command
 out_of_x = Accesses part.Copy (copied_from (words_of x 0 16) ∷ copied_to (words_of b 0 4) ∷ copied_to (words_of b 64 4) ∷ copied_to (words_of b 128 4)
     ∷ copied_to (words_of b 192 4) ∷ [])
 
--- one side of a barrier
+-- a subresource of y from a buffer and to one, its rows one behind the other
+abbrev pub sub_of_y : ℕ → Range
+sub_of_y sub = record { resource = y; sub = sub; first = 0; words = 16 }
+
+abbrev pub into_y : ℕ → Command
+into_y sub = Accesses part.Copy (copied_from (words_of u 0 16) ∷ copied_to (sub_of_y sub) ∷ [])
+
+abbrev pub out_of_y : ℕ → Command
+out_of_y sub = Accesses part.Copy (copied_from (sub_of_y sub) ∷ copied_to (words_of b 0 16) ∷ [])
+
+-- a barrier with its two sides
 abbrev pub barrier : Scope → SyncName → SyncName → AccessName → AccessName → Layout → Layout → Command
 barrier what sync_before sync_after access_before access_after before after = Bars (record {
   scope = what;
@@ -237,6 +252,10 @@ x_to_any after = barrier (scope.Texture (record { 0 = x }) None) sync.NONE sync.
 -- a dispatch that writes the texture through a view
 abbrev pub view_of_x : Command
 view_of_x = Accesses part.Compute (record { range = words_of x 0 16; kind = kind.UnorderedAccess; reads = false; writes = true } ∷ [])
+
+-- a barrier of one subresource of y or of all, between copies
+abbrev pub y_written_to_read : Option ℕ → Layout → Command
+y_written_to_read sub before = barrier (scope.Texture (record { 0 = y }) sub) sync.COPY sync.COPY access.COPY_DEST access.COPY_SOURCE before layout.Common
 
 -- barriers of d, of the other buffer, and of all
 abbrev pub d_written_to : AccessName → Command

@@ -1,7 +1,10 @@
 //! Laws of clocks, of scopes and of the judge. The functions do nothing.
 
 ghost use Rattle.d3d_judge.specs.Laws.{PendingAreCalled, StaySound, ClocksAreSound, LoadsAreFresh, StoresAreFresh, KnowAhead};
-ghost use Rattle.d3d_judge.specs.Laws.{CleanExecutesKnow, CleanClocksAre, MadeIsAll, TouchedAreAll, BrokenStays, RepliesPlayNoPart};
+ghost use Rattle.d3d_judge.specs.Laws.{CleanExecutesKnow, CleanClocksAre, MadeIsAll, TouchedAreAll, BrokenStays, RepliesPlayNoPart, RightWordsPlayNoPart};
+ghost use Rattle.d3d_judge.specs.CarriedClocks.{SizesStay};
+ghost use Rattle.d3d_judge.specs.WordTouches.{ShapesStay};
+ghost use Rattle.d3d_judge.specs.CoverPlaces.{PlacesTell, PlacesTellFirst};
 ghost use Rattle.d3d_judge.specs.Thresholds.{CoversGrow, ThresholdsTell, ThresholdsAreBehind};
 ghost use Rattle.d3d_judge.specs.Tables.{TablesTell, QueueTablesTell, ThreadTablesTell};
 ghost use Rattle.d3d_judge.specs.Laws.{OfScopes, BreakNothing, ScopesCover, ChangesReach, AccessesAreAllowed, OpenedAreAll, CommandsApart, PlacesCount, LaterCovers};
@@ -11,6 +14,12 @@ ghost use Rattle.d3d_judge.specs.Laws.{OfScopes, BreakNothing, ScopesCover, Chan
 pub fn clocks_are_sound()
     ensures stay { StaySound }
     ensures of_histories { ClocksAreSound }
+{}
+
+/// Clocks have a number for each queue and each thread of the world, at first and along a history.
+#[tactic(none)]
+pub fn clocks_keep_their_sizes()
+    ensures { SizesStay }
 {}
 
 /// The pending operations of the clocks are the machine's called and incomplete ones, queue by queue.
@@ -62,6 +71,13 @@ pub fn a_broken_verdict_stays()
 #[tactic(none)]
 pub fn replies_play_no_part()
     ensures { RepliesPlayNoPart }
+{}
+
+/// A history whose words are those that the machine gives has the clocks that it has with any other words, and the same is
+/// said of it. So what holds of each run holds of each run but for words.
+#[tactic(none)]
+pub fn right_words_play_no_part()
+    ensures { RightWordsPlayNoPart }
 {}
 
 /// At each place of a clean scope no rule is broken.
@@ -128,4 +144,18 @@ pub fn thresholds_tell_what_is_covered()
     ensures sets { CoversGrow }
     ensures thresholds { ThresholdsTell }
     ensures behind { ThresholdsAreBehind }
+{}
+
+/// The tables of a world's words have nothing at first, and a shape that touches keep: a subresource and
+/// actors for each of the world, and words enough.
+#[tactic(none)]
+pub fn tables_keep_their_shapes()
+    ensures { ShapesStay }
+{}
+
+/// One place for each pair, as the code keeps them, tells which pairs are covered of each access of an own pair.
+#[tactic(none)]
+pub fn places_tell_what_is_covered()
+    ensures barriers { PlacesTell }
+    ensures accesses { PlacesTellFirst }
 {}

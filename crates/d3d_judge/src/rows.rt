@@ -1,13 +1,13 @@
 //! Worked rows: small runs that break a rule, and such as just keep it. The functions do nothing.
 
-ghost use Rattle.std.specs.Prelude.{◌≡◌, [], ◌∷◌};
+ghost use Rattle.std.specs.Prelude.{◌≡◌, [], ◌∷◌, Some, None};
 ghost use Rattle.dx_flags.specs.declared.layouts.Layout.TheVariants as layout;
 ghost use Rattle.dx_flags.specs.AccessNames as access;
 ghost use Rattle.dx_flags.specs.SyncNames as sync;
 ghost use Rattle.d3d_judge.specs.declared.rules.Rule.TheVariants.{B1, B2, B3, B4, B5, B10, B12};
 ghost use Rattle.d3d_judge.specs.declared.rules.Verdict.TheVariants.{Clean, Broken};
 ghost use Rattle.d3d_judge.specs.Judged.{judge};
-ghost use Rattle.d3d_judge.specs.Rows.{all_from, all_read, all_written_to, b, copies_halves, copies_twice, d, d_to_b, d_written_to, e_written_to, from_readback, into_upload, into_x, judge_scope, judge_two, judge_two_in_order, marked_later, marked_wait, nothing_of_d, one_queue_twice, out_of_x, read_behind_a_value, read_behind_a_wait, read_behind_an_older_value, read_too_early, read_unknown, reads_stay, refused_read, small_world, two_queues, two_queues_in_order, two_readers, u_to_d, view_of_x, whole_way, within_d, write_too_early, x_from_none, x_to_any, x_written_to_read};
+ghost use Rattle.d3d_judge.specs.Rows.{all_from, into_y, out_of_y, y_written_to_read, all_read, all_written_to, b, copies_halves, copies_twice, d, d_to_b, d_written_to, e_written_to, from_readback, into_upload, into_x, judge_scope, judge_two, judge_two_in_order, marked_later, marked_wait, nothing_of_d, one_queue_twice, out_of_x, read_behind_a_value, read_behind_a_wait, read_behind_an_older_value, read_too_early, read_unknown, reads_stay, refused_read, small_world, two_queues, two_queues_in_order, two_readers, u_to_d, view_of_x, whole_way, within_d, write_too_early, x_from_none, x_to_any, x_written_to_read};
 
 /// Host accesses beside copies of the same words: B10.
 pub fn host_accesses_know_what_was_before()
@@ -48,6 +48,16 @@ pub fn barriers_cover_accesses()
     ensures another_buffer { judge_scope (u_to_d ∷ e_written_to access.COPY_SOURCE ∷ d_to_b ∷ []) ≡ Broken B2 7 }
     ensures too_early { judge_scope (d_written_to access.COPY_SOURCE ∷ u_to_d ∷ d_to_b ∷ []) ≡ Broken B2 7 }
     ensures one_command { judge_scope (within_d ∷ []) ≡ Broken B2 5 }
+    ensures no_words { judge_scope (u_to_d ∷ nothing_of_d ∷ []) ≡ Clean }
+{}
+
+/// Subresources of a texture are apart: a barrier of one covers and loses no words of another, one of all does: B2, B12.
+pub fn barriers_name_subresources()
+    ensures that_one { judge_scope (into_y 0 ∷ y_written_to_read (Some 0) layout.Common ∷ out_of_y 0 ∷ []) ≡ Clean }
+    ensures another { judge_scope (into_y 0 ∷ y_written_to_read (Some 1) layout.Common ∷ out_of_y 0 ∷ []) ≡ Broken B2 7 }
+    ensures all { judge_scope (into_y 1 ∷ y_written_to_read None layout.Common ∷ out_of_y 1 ∷ []) ≡ Clean }
+    ensures apart { judge_scope (into_y 0 ∷ out_of_y 1 ∷ []) ≡ Broken B12 6 }
+    ensures lost { judge_scope (into_y 1 ∷ y_written_to_read None layout.Undefined ∷ out_of_y 1 ∷ []) ≡ Broken B12 7 }
 {}
 
 /// Barriers one behind the other cover what the first has before it, where the second has its part: B2.

@@ -1,5 +1,8 @@
 //! The rules that a history may break, and what is said of it.
 
+ghost use Rattle.std.specs.Prelude.{◌≡◌};
+ghost use Rattle.d3d_judge.specs.Rules.{rule_word};
+
 /// A rule of use of Direct3D 12.
 #[derive(Clone, Copy, Debug, PartialEq, Eq)]
 pub enum Rule {
@@ -32,12 +35,35 @@ pub enum Rule {
     B13,
 }
 
+impl Rule {
+    /// The rule's name.
+    pub fn word(self) -> &'static str
+        ensures { result.now ≡ rule_word self }
+    {
+        match self {
+            Rule::B1 => "B1",
+            Rule::B2 => "B2",
+            Rule::B3 => "B3",
+            Rule::B4 => "B4",
+            Rule::B5 => "B5",
+            Rule::B6 => "B6",
+            Rule::B7 => "B7",
+            Rule::B8 => "B8",
+            Rule::B9 => "B9",
+            Rule::B10 => "B10",
+            Rule::B11 => "B11",
+            Rule::B12 => "B12",
+            Rule::B13 => "B13",
+        }
+    }
+}
+
 /// What is said of a history.
 #[derive(Clone, Copy, Debug, PartialEq, Eq)]
 pub enum Verdict {
     /// No event breaks a rule.
     Clean,
-    /// The least rule that is broken at the first command that breaks one, and the number of the event, counted
-    /// from 1.
+    /// The first event that breaks a rule breaks this one: the least that is broken at its first command that breaks
+    /// one. The number is the event's place in the history, counted from 1.
     Broken(Rule, u64),
 }

@@ -21,3 +21,4 @@ pub mod Refusals
 pub mod Past
 pub mod PastPlaces
 pub mod PastCalls
+pub mod RightWords

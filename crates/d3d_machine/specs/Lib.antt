@@ -1,4 +1,5 @@
 pub mod World
+pub mod Counts
 pub mod State
 pub mod CallEffects
 pub mod Replies
@@ -15,4 +16,5 @@ pub mod Good
 pub mod Steps
 pub mod Machine
 pub mod Past
+pub mod RightWords
 pub mod Laws

@@ -1,5 +1,5 @@
 -- A world: its objects, and what a call may name.
-use Rattle.std.specs.Prelude.{ℕ, ◌≡◌, ◌≤◌, ◌+◌, ◌*◌, ◌%◌, ◌==◌, ◌&&◌, nat_lt, nat_le, Bool, true, false, length, slice_get, Option, Some, None}
+use Rattle.std.specs.Prelude.{ℕ, ◌≡◌, ◌≤◌, ◌+◌, ◌*◌, ◌%◌, ◌==◌, ◌&&◌, nat_lt, nat_le, Bool, true, false, List, length, slice_get, Option, Some, None, sum_by}
 use Rattle.std.specs.List.{list_all}
 use Rattle.dx_base.specs.declared.kinds.Home.{Home}
 use Rattle.dx_base.specs.declared.kinds.Home.TheVariants as home
@@ -10,6 +10,7 @@ use Rattle.d3d_machine.specs.declared.calls.Call.{Call}
 use Rattle.d3d_machine.specs.declared.calls.Call.TheVariants as call
 use Rattle.d3d_machine.specs.declared.calls.Record.{Record}
 use Rattle.d3d_machine.specs.declared.calls.Record.TheVariants.{Copy}
+use Rattle.d3d_machine.specs.Counts.{calls_in_all, lists_in_all}
 
 -- the resource of that id, where it lives
 abbrev pub resource_of : World → ℕ → Option Resource
@@ -84,10 +85,29 @@ abbrev pub is_small_resource : Option Resource → Bool
 is_small_resource None = true
 is_small_resource (Some (Buffer h n)) = nat_le n 262144
 
--- a valid world: its calls name objects of it, its objects keep the limits, and it has at most one queue
+-- the words of a resource; a dead one has none
+abbrev pub words_of_option : Option Resource → ℕ
+words_of_option None = 0
+words_of_option (Some b) = words_of_resource b
+
+-- the words of all resources
+abbrev pub words_of_resources : List (Option Resource) → ℕ
+words_of_resources rs = sum_by words_of_option rs
+
+-- a valid world: its calls name objects of it, and it keeps the limits of a trace
 pub record IsWorld (w : World) : Type 0 where
   pub named : are_named w ≡ true
-  pub few_queues : length w.queues ≤ 1
-  pub threads : length w.scripts ≤ 16
+  pub queues : length w.queues ≤ 16
+  pub fences : length w.fences ≤ 256
   pub resources : length w.resources ≤ 4096
+  pub allocators : length w.allocators ≤ 1024
+  pub lists : length w.lists ≤ 1024
+  pub threads : length w.scripts ≤ 16
   pub sizes : list_all is_small_resource w.resources ≡ true
+  pub words : words_of_resources w.resources ≤ 1048576
+  pub calls : calls_in_all w.scripts ≤ 65536
+  pub executed : lists_in_all w.scripts ≤ 4096
+
+-- a world has one queue, or none
+pub record HasOneQueueAtMost (w : World) : Type 0 where
+  pub few_queues : length w.queues ≤ 1

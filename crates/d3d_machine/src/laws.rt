@@ -2,6 +2,7 @@
 
 ghost use Rattle.d3d_machine.specs.Laws.{StepsMay, RefusedCallsHaveNoEffect, RunsFollowScripts, WaitsAreMetSince};
 ghost use Rattle.d3d_machine.specs.Past.{PastsAreRight, PastsHaveOperations};
+ghost use Rattle.d3d_machine.specs.RightWords.{WordsAreApart};
 
 /// The events of the steps are the events that may come: what a thread's or a queue's step gives may come,
 /// and of each thread and each queue nothing else may.
@@ -44,4 +45,12 @@ pub fn pasts_are_right()
 #[tactic(auto, using(crate::proofs::PastCalls::pasts_have_operations))]
 pub fn pasts_have_operations()
     ensures { PastsHaveOperations }
+{}
+
+/// A history is a run but for words exactly where it becomes a run when the numbers of the words that it read, and only
+/// these, are replaced by as many that the machine gives. That changes neither the calls of a thread, nor the state with
+/// its lists, queues, fences and marks, nor the past.
+#[tactic(auto, using(crate::proofs::RightWords::words_are_apart))]
+pub fn words_are_apart()
+    ensures { WordsAreApart }
 {}

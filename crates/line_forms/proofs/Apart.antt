@@ -1,17 +1,6 @@
 -- A line of one form is of no form that is tried before.
-use Rattle.std.proofs.Common.{ℕ, zero, suc, ◌≡◌, ◌&&◌, ◌||◌, ◌==◌, not, Bool, true, false, List, [], ◌∷◌, ◌++◌, length, slice_get, Some, refl, rules, arith}
-use Rattle.std.specs.List.{list_all}
-use Rattle.std.specs.Str.{bytes_eq}
-use Rattle.std.proofs.lemmas.Bool.{and_parts}
-use Rattle.std.proofs.lemmas.Bool.Decides.{nat_tests}
-use Rattle.line_forms.specs.declared.part.PartValue.{PartValue}
-use Rattle.line_forms.specs.declared.part.Rest.{Rest}
-use Rattle.line_forms.specs.declared.part.Rest.TheVariants.{Nothing, Names, Words}
-use Rattle.line_forms.specs.Finding.{may_stand, may_end, fits, form_for}
-use Rattle.line_forms.specs.Laws.{AllGood, is_other, differ, apart, are_apart, all_apart}
-use Rattle.line_forms.specs.Parts.{Place, Word, Name, NewName, Number, DataWord, FlagWord, Set, Choice, AllOr, AllOrNumber, Row}
-use Rattle.line_forms.specs.Printing.{Known, part_text, part_texts, rest_texts}
-use Rattle.line_forms.specs.Reading.{Naming}
+use Rattle.line_forms.proofs.Vocabulary.{ℕ, zero, suc, ◌≡◌, ◌&&◌, ◌||◌, ◌==◌, not, Bool, true, false, List, [], ◌∷◌, ◌++◌, length, slice_get, Some, Option, refl, sym, rules, arith, cond, if◌then◌else◌, list_all, filter, bytes_eq, and_parts, nat_tests, PartValue, Rest, Nothing, Names, Words, AllGood, is_other, differ, apart, are_apart, all_apart, Place, Word, Name, NewName, Number, DataWord, FlagWord, Set, Choice, AllOr, AllOrNumber, Row, Known, part_text, part_texts, rest_texts, Naming}
+use Rattle.line_forms.specs.Finding.{may_stand, may_end, fits, form_for, may_begin, first_byte_of, beginning_with}
 
 has_some : (k : ℕ) → (suc k == 0) ≡ false
 has_some k = grind (arith, nat_tests)
@@ -19,6 +8,12 @@ has_some k = grind (arith, nat_tests)
 both_false : (t : Bool) → (t && false) ≡ false
 both_false true = refl
 both_false false = refl
+
+-- what all of some pass, one of them passes
+pub passes : {F : Type 0} (P : F → Bool) (fs : List F) (k : ℕ) (f : F) → list_all P fs ≡ true → slice_get fs k ≡ Some f → P f ≡ true
+passes P [] k f all e = cc
+passes P (g ∷ fs) zero f all e = let is : g ≡ f = cc in rw (← is) (and_parts (P g) (list_all P fs) all).0
+passes P (g ∷ fs) (suc k) f all e = passes P fs k f (and_parts (P g) (list_all P fs) all).1 e
 
 module _ (n : Naming) (known : Known) where
   other_word : (a : List ℕ) (q : Place) → is_other a q ≡ true → may_stand q a ≡ false
@@ -100,11 +95,6 @@ module _ (n : Naming) (known : Known) where
   does_fit (p ∷ ps) [] r rs good = absurd good
   does_fit (p ∷ ps) (v ∷ vs) r rs good = rw (stands p v, does_fit ps vs r rs good.1) refl
 
-  passes : {F : Type 0} (P : F → Bool) (fs : List F) (k : ℕ) (f : F) → list_all P fs ≡ true → slice_get fs k ≡ Some f → P f ≡ true
-  passes P [] k f all e = cc
-  passes P (g ∷ fs) zero f all e = let is : g ≡ f = cc in rw (← is) (and_parts (P g) (list_all P fs) all).0
-  passes P (g ∷ fs) (suc k) f all e = passes P fs k f (and_parts (P g) (list_all P fs) all).1 e
-
   -- the form of a line is found
   pub found_in : {F : Type 0} (row : F → Row) (fs : List F) (k : ℕ) (f : F) (vs : List PartValue) (rs : List ℕ) → all_apart row fs ≡ true →
       slice_get fs k ≡ Some f → AllGood n known (row f).parts vs → form_for row fs (part_texts known (row f).parts vs ++ rest_texts known (row f).rest rs) ≡ Some f
@@ -116,3 +106,35 @@ module _ (n : Naming) (known : Known) where
       let both = and_parts (list_all (λ h. are_apart (row h) (row g)) fs) (all_apart row fs) all in
       let first : are_apart (row f) (row g) ≡ true = passes (λ h. are_apart (row h) (row g)) fs k f both.0 e in
       rw (cannot_fit (row f).parts vs (row f).rest rs (row g).parts (row g).rest good first) (found_in row fs k f vs rs both.1 e good)
+
+-- a line that begins with another byte is not of the form
+other_byte : (ps : List Place) (r : Rest) (ws : List (List ℕ)) → may_begin (first_byte_of ws) ps ≡ false → fits ps r ws ≡ false
+unfolding fits
+other_byte [] r ws e = cc
+other_byte (p ∷ ps) r [] e = refl
+other_byte (Word [] ∷ ps) r (w ∷ ws) e = cc
+other_byte (Word (c ∷ cs) ∷ ps) r ([] ∷ ws) e = refl
+other_byte (Word (c ∷ cs) ∷ ps) r ((b ∷ bs) ∷ ws) e = rw e refl
+other_byte (Name k ∷ ps) r (w ∷ ws) e = cc
+other_byte (NewName ∷ ps) r (w ∷ ws) e = cc
+other_byte (Number ∷ ps) r (w ∷ ws) e = cc
+other_byte (DataWord ∷ ps) r (w ∷ ws) e = cc
+other_byte (FlagWord ∷ ps) r (w ∷ ws) e = cc
+other_byte (Set s ∷ ps) r (w ∷ ws) e = cc
+other_byte (Choice c ∷ ps) r (w ∷ ws) e = cc
+other_byte (AllOr k ∷ ps) r (w ∷ ws) e = cc
+other_byte (AllOrNumber ∷ ps) r (w ∷ ws) e = cc
+
+-- the form of a line is found among those that may begin with its first byte
+pub found_beginning : {F : Type 0} (row : F → Row) (fs : List F) (ws : List (List ℕ)) →
+    form_for row (beginning_with row fs (first_byte_of ws)) ws ≡ form_for row fs ws
+unfolding form_for
+found_beginning row [] ws = refl
+found_beginning {F} row (f ∷ fs) ws = by_test (may_begin (first_byte_of ws) (row f).parts) refl (found_beginning row fs ws)
+  where
+    by_test : (t : Bool) → may_begin (first_byte_of ws) (row f).parts ≡ t →
+        form_for row (beginning_with row fs (first_byte_of ws)) ws ≡ form_for row fs ws →
+        form_for row (cond t (f ∷ beginning_with row fs (first_byte_of ws)) (beginning_with row fs (first_byte_of ws))) ws
+        ≡ (if fits (row f).parts (row f).rest ws then Some f else form_for row fs ws)
+    by_test true is more = rw more refl
+    by_test false is more = rw (other_byte (row f).parts (row f).rest ws is) more

@@ -1,8 +1,5 @@
 -- The word of what is chosen is read as it.
-use Rattle.std.proofs.Common.{ℕ, ◌≡◌, Bool, true, false, List, [], ◌∷◌, Some, refl, subst, if◌then◌else◌, inl, inr, sym}
-use Rattle.std.specs.List.{AllByRecursion}
-use Rattle.std.specs.Str.{bytes_eq}
-use Rattle.std.proofs.lemmas.Slice.Eq.{bytes_eq-Decides}
+use Rattle.line_forms.proofs.Vocabulary.{ℕ, ◌≡◌, Bool, true, false, List, [], ◌∷◌, Some, refl, subst, if◌then◌else◌, inl, inr, sym, AllByRecursion, bytes_eq, bytes_eq-Decides, Choices, IsAmong, IsChoice, choice_text, choices_of, chosen, as_choice, type_in, home_in, layout_in, class_in, shared_in, visible_in, version_in, routine_in}
 use Rattle.dx_base.specs.declared.kinds.Class.{Class}
 use Rattle.dx_base.specs.declared.kinds.Class.TheVariants as class
 use Rattle.dx_base.specs.declared.kinds.Home.{Home}
@@ -17,24 +14,11 @@ use Rattle.line_forms.specs.declared.choice.Choice.TheVariants as choice
 use Rattle.line_forms.specs.declared.choice.Version.{Version}
 use Rattle.line_forms.specs.declared.choice.Version.TheVariants as version
 use Rattle.line_forms.specs.declared.choice.Choice.{Choice}
-use Rattle.line_forms.specs.declared.choice.Choices.{Choices}
 use Rattle.line_forms.specs.declared.choice.Choices.TheVariants as choices
-use Rattle.line_forms.specs.Says.{IsAmong, IsChoice}
 use Rattle.line_forms.proofs.SetsSay.{among_holds}
-use Rattle.line_forms.specs.Choices.{choice_text, choices_of, chosen, as_choice, type_in, home_in, layout_in, class_in, shared_in, visible_in, version_in, routine_in}
-
--- what holds of each choice holds of what is chosen
-pub chosen_pass : (P : Choice → Type 0) (cs : List Choice) → AllByRecursion P cs → (w : List ℕ) (c : Choice) → chosen cs w ≡ Some c → P c
-unfolding chosen
-chosen_pass P [] all w c e = cc
-chosen_pass P (x ∷ cs) all w c e = by_test (bytes_eq w (choice_text x)) (λ found. chosen_pass P cs all.1 w c found) e
-  where
-    by_test : (t : Bool) → (chosen cs w ≡ Some c → P c) → (if t then Some x else chosen cs w) ≡ Some c → P c
-    by_test true behind e = let is : x ≡ c = cc in subst P is all.0
-    by_test false behind e = behind e
 
 -- the word that chooses is the word of what is chosen
-pub chosen_text : (cs : List Choice) (w : List ℕ) (c : Choice) → chosen cs w ≡ Some c → w ≡ choice_text c
+chosen_text : (cs : List Choice) (w : List ℕ) (c : Choice) → chosen cs w ≡ Some c → w ≡ choice_text c
 unfolding chosen
 chosen_text [] w c e = cc
 chosen_text (x ∷ cs) w c e = by_test (bytes_eq w (choice_text x)) refl (λ found. chosen_text cs w c found) e
@@ -60,9 +44,9 @@ own choices.Visible = (record { reads = refl; kind = refl }, (record { reads = r
 own choices.Version = (record { reads = refl; kind = refl }, (record { reads = refl; kind = refl }, tt))
 own choices.Routine = (record { reads = refl; kind = refl }, (record { reads = refl; kind = refl }, (record { reads = refl; kind = refl }, (record { reads = refl; kind = refl }, (record { reads = refl; kind = refl }, (record { reads = refl; kind = refl }, (record { reads = refl; kind = refl }, (record { reads = refl; kind = refl }, tt))))))))
 
--- what is chosen is read of its own word
-pub chosen_own : (k : Choices) (w : List ℕ) (c : Choice) → chosen (choices_of k) w ≡ Some c → IsOwn k c
-chosen_own k w c e = chosen_pass (IsOwn k) (choices_of k) (own k) w c e
+-- what a word chooses is read of its own word
+pub choice_own : (k : Choices) (w : List ℕ) (c : Choice) → IsChoice (choices_of k) c w → IsOwn k c
+choice_own k w c h = among_holds (IsOwn k) (choices_of k) c (own k) h.1
 
 -- a choice that is read of its own word
 abbrev pub ReadsOwn : Choices → Choice → Type 0
@@ -148,4 +132,4 @@ pub choice_says : (k : Choices) (w : List ℕ) (c : Choice) → chosen (choices_
 choice_says k w c e = (chosen_text (choices_of k) w c e, chosen_among (choices_of k) w c e)
 
 pub choice_said : (k : Choices) (w : List ℕ) (c : Choice) → IsChoice (choices_of k) c w → chosen (choices_of k) w ≡ Some c
-choice_said k w c h = rw (h.0) (among_holds (IsOwn k) (choices_of k) c (own k) h.1).reads
+choice_said k w c h = rw (h.0) (choice_own k w c h).reads

@@ -1,14 +1,6 @@
 -- What each of several words means, one more word at a time.
-use Rattle.std.proofs.Common.{ℕ, suc, ◌≡◌, ◌+◌, ◌<◌, ◌≤◌, ◌∙◌, sym, List, [], ◌∷◌, ◌++◌, length, map, drop, drop-cons, get_or, slice_get, min, nat_le, Bool, true, false, zero, Bor, Result, Ok, Err, refl, ap, arith, add-one, append_assoc, append-nil}
-use Rattle.std.proofs.lemmas.Bool.Decides.{nat_tests}
-use Rattle.std.proofs.lemmas.Bool.{leb-true}
-use Rattle.std.proofs.lemmas.List.{drop_all, length-map}
-use Rattle.line_forms.specs.declared.cause.Cause.{Cause}
+use Rattle.line_forms.proofs.Vocabulary.{ℕ, suc, ◌≡◌, ◌+◌, ◌<◌, ◌≤◌, ◌∙◌, sym, List, [], ◌∷◌, ◌++◌, length, map, drop, drop-cons, get_or, slice_get, min, nat_le, Bool, true, false, zero, Bor, Result, Ok, Err, refl, ap, arith, add-one, append_assoc, append-nil, nat_tests, leb-true, drop_all, length-map, Cause, Place, place_of, PartValue, earlier_of, wrapped, two_of, Naming, read_at, read_parts, each_of}
 use Rattle.line_forms.specs.declared.part.Part.{Part}
-use Rattle.line_forms.specs.Parts.{Place, place_of}
-use Rattle.line_forms.specs.declared.part.PartValue.{PartValue}
-use Rattle.line_forms.specs.Causes.{earlier_of, wrapped, two_of}
-use Rattle.line_forms.specs.Reading.{Naming, read_at, read_parts, each_of}
 
 -- of three causes the earliest is the same in whatever order they are compared
 pub earlier_assoc : (a b c : Cause) → earlier_of (earlier_of a b) c ≡ earlier_of a (earlier_of b c)

@@ -1,30 +1,12 @@
 -- What is read is read of its own words.
-use Rattle.std.proofs.Common.{ℕ, zero, suc, ◌≡◌, ◌∙◌, ◌+◌, ◌==◌, ◌&&◌, ◌++◌, nat_le, Bool, true, false, List, [], ◌∷◌, length, map, drop, Option, Some, None, Ok, Err, Result, refl, sym, ap, subst, add-one, rules, decimal, if◌then◌else◌}
-use Rattle.std.specs.Str.{bytes_eq}
-use Rattle.std.proofs.lemmas.List.{length-map}
-use Rattle.line_forms.specs.declared.cause.Cause.{Cause}
-use Rattle.line_forms.specs.declared.cause.Cause.TheVariants as cause
-use Rattle.line_forms.specs.declared.form.Line.{Line}
-use Rattle.line_forms.specs.declared.kind.Kind.{Kind}
-use Rattle.line_forms.specs.declared.part.PartValue.{PartValue}
+use Rattle.line_forms.proofs.Vocabulary.{ℕ, zero, suc, ◌≡◌, ◌∙◌, ◌+◌, ◌<◌, ◌^◌, ◌&&◌, ◌++◌, inl, inr, nat_le, nat_lt, Bool, true, false, List, [], ◌∷◌, length, map, drop, Ok, refl, sym, ap, add-one, arith, list_all, and_parts, and_from, lt-ltb, le-leb, ltb-true, length-map, Line, Kind, PartValue, Rest, Nothing, Names, Words, wrapped, two_of, shaped, shaped_from, shaped_rest, shaped_line, IsGood, AllParts, AllGood, IsGoodLine, AreNamed, ReadsAgain, PrintsBack, hex_word, Place, Word, Name, NewName, Number, DataWord, FlagWord, Set, Choice, AllOr, AllOrNumber, Row, Known, part_text, part_texts, rest_texts, line_words, Naming, word_of, read_part, read_parts, each_of, read_rest, read_row, IsHexadecimal, Says, SayAll, SayEach, SayRest, value_at}
 use Rattle.line_forms.specs.declared.part.PartValue.TheVariants as value
-use Rattle.line_forms.specs.declared.part.Rest.{Rest}
-use Rattle.line_forms.specs.declared.part.Rest.TheVariants.{Nothing, Names, Words}
-use Rattle.line_forms.specs.Causes.{wrapped, two_of}
-use Rattle.line_forms.specs.Choices.{choices_of, chosen}
-use Rattle.line_forms.specs.Laws.{shaped, shaped_from, shaped_rest, shaped_line, IsGood, AllGood, IsGoodLine, AreNamed, ReadsAgain, PrintsBack}
-use Rattle.line_forms.specs.Lines.{hex_word}
-use Rattle.line_forms.specs.Parts.{Place, Word, Name, NewName, Number, DataWord, FlagWord, Set, Choice, AllOr, AllOrNumber, Row}
-use Rattle.line_forms.specs.Printing.{Known, part_texts, rest_texts, line_words}
-use Rattle.line_forms.specs.Reading.{Naming, or_form, all_text, number_of, word_of, stands_for, all_or_of, read_part, read_parts, each_of, read_rest, read_row}
-use Rattle.line_forms.specs.Sets.{rows_of, set_from}
-use Rattle.line_forms.specs.Values.{value_at}
 use Rattle.line_forms.proofs.Apart.{found_in}
-use Rattle.line_forms.proofs.ChoicesBack.{chosen_own}
-use Rattle.line_forms.proofs.Grammar.{or_form_ok, number_says, ends_if}
-use Rattle.line_forms.proofs.Results.{made_of, two_read}
+use Rattle.line_forms.proofs.ChoicesBack.{choice_own}
+use Rattle.line_forms.proofs.Grammar.{grammar, hex_said, part_said, rest_said}
 use Rattle.line_forms.proofs.SetsBack.{set_again}
-use Rattle.line_forms.proofs.WordsBack.{number_back, word_back, word_small, flag_back}
+use Rattle.line_forms.proofs.SetsSay.{set_said}
+use Rattle.line_forms.proofs.WordsBack.{word_back, word_small, flag_back}
 
 -- the value at a place
 pub value_there : (vs us : List PartValue) (v : PartValue) (i : ℕ) → drop i vs ≡ v ∷ us → (value_at vs i ≡ v) × (drop (suc i) vs ≡ us)
@@ -33,15 +15,8 @@ value_there [] us v (suc i) e = cc
 value_there (x ∷ vs) us v zero e = (cc, cc)
 value_there (x ∷ vs) us v (suc i) e = value_there vs us v i e
 
--- values of their parts' own kinds
-abbrev AllShaped : List Place → List PartValue → Type 0
-AllShaped [] [] = Unit {0}
-AllShaped [] (v ∷ vs) = ⊥
-AllShaped (p ∷ ps) [] = ⊥
-AllShaped (p ∷ ps) (v ∷ vs) = (shaped p v ≡ v) × AllShaped ps vs
-
 -- values from a place on are of their parts' kinds
-from_place : (ps : List Place) (us vs : List PartValue) (i : ℕ) → drop i vs ≡ us → AllShaped ps us → shaped_from i ps vs ≡ us
+from_place : (ps : List Place) (us vs : List PartValue) (i : ℕ) → drop i vs ≡ us → AllParts (λ p v. shaped p v ≡ v) ps us → shaped_from i ps vs ≡ us
 from_place [] [] vs i e good = refl
 from_place [] (u ∷ us) vs i e good = absurd good
 from_place (p ∷ ps) [] vs i e good = absurd good
@@ -49,211 +24,167 @@ from_place (p ∷ ps) (u ∷ us) vs i e good =
     let there = value_there vs us u i e in
     rw (there.0, good.0, from_place ps us vs (i + 1) (rw (add-one i) there.1) good.1) refl
 
--- all, or one, is of its kind
-all_or_shaped : {A : Type 0} (make : Option A → PartValue) (one : List ℕ → Result A Cause) (P : PartValue → Type 0) → ((o : Option A) → P (make o)) →
-    (w : List ℕ) (v : PartValue) → all_or_of make one w ≡ Ok v → P v
-unfolding all_or_of
-all_or_shaped make one P holds w v e = by_test (bytes_eq w all_text) e
-  where
-    by_test : (b : Bool) → (if b then Ok (make None) else wrapped (λ i. make (Some i)) (one w)) ≡ Ok v → P v
-    by_test true e = let same : make None ≡ v = cc in subst P same (holds None)
-    by_test false e = let m = made_of (λ i. make (Some i)) (one w) v e in subst P m.makes (holds (Some m.from))
+-- a fact of each value that a word says
+parts_hold : (n : Naming) (P : Place → PartValue → Type 0) → ((p : Place) (w : List ℕ) (v : PartValue) → Says n p v w → P p v) →
+    (ps : List Place) (vs : List PartValue) (ws : List (List ℕ)) → SayAll n ps vs ws → AllParts P ps vs
+parts_hold n P holds [] [] ws h = tt
+parts_hold n P holds [] (v ∷ vs) ws h = absurd h
+parts_hold n P holds (p ∷ ps) vs [] h = absurd h
+parts_hold n P holds (p ∷ ps) [] (w ∷ ws) h = absurd h
+parts_hold n P holds (p ∷ ps) (v ∷ vs) (w ∷ ws) h = (holds p w v h.0, parts_hold n P holds ps vs ws h.1)
 
-stands_shaped : (t w : List ℕ) (v : PartValue) → stands_for t w ≡ Ok v → value.AsItStands ≡ v
-unfolding stands_for
-stands_shaped t w v e = by_test (bytes_eq w t) e
-  where
-    by_test : (b : Bool) → (if b then Ok value.AsItStands else Err cause.Form) ≡ Ok v → value.AsItStands ≡ v
-    by_test true e = cc
-    by_test false e = cc
+-- what is said is of its part's kind
+part_shaped : (n : Naming) (p : Place) (w : List ℕ) (v : PartValue) → Says n p v w → shaped p v ≡ v
+part_shaped n (Word t) w v h = sym h.1
+part_shaped n (Name k) w v h = rw (h.2) refl
+part_shaped n NewName w v h = rw (h.2) refl
+part_shaped n Number w v h = rw (h.2) refl
+part_shaped n DataWord w v h = rw (h.2) refl
+part_shaped n FlagWord w v h = rw (h.2) refl
+part_shaped n (Set s) w v h = rw (h.2) refl
+part_shaped n (Choice c) w v h = rw (h.2) (ap value.Chosen (choice_own c w h.0 h.1).kind)
+part_shaped n (AllOr k) w v (inl h) = rw (h.1) refl
+part_shaped n (AllOr k) w v (inr h) = rw (h.1.2) refl
+part_shaped n AllOrNumber w v (inl h) = rw (h.1) refl
+part_shaped n AllOrNumber w v (inr h) = rw (h.1.2) refl
 
-module _ (n : Naming) where
-  part_shaped : (p : Place) (w : List ℕ) (v : PartValue) → read_part n p w ≡ Ok v → shaped p v ≡ v
-  part_shaped (Word t) w v e = stands_shaped t w v e
-  part_shaped (Name k) w v e = let m = made_of value.Id (n.number k w) v e in subst (λ x. shaped (Name k) x ≡ x) m.makes refl
-  part_shaped NewName w v e = let m = made_of value.NewName (n.fresh w) v e in subst (λ x. shaped NewName x ≡ x) m.makes refl
-  part_shaped Number w v e = let m = made_of value.Number (number_of w) v e in subst (λ x. shaped Number x ≡ x) m.makes refl
-  part_shaped DataWord w v e = let m = made_of value.Word (word_of w) v e in subst (λ x. shaped DataWord x ≡ x) m.makes refl
-  part_shaped FlagWord w v e = let m = made_of value.Word (word_of w) v e in subst (λ x. shaped FlagWord x ≡ x) m.makes refl
-  part_shaped (Set s) w v e = let m = made_of value.Set (set_from (rows_of s) w) v e in subst (λ x. shaped (Set s) x ≡ x) m.makes refl
-  part_shaped (Choice c) w v e =
-      let m = made_of value.Chosen (or_form (chosen (choices_of c) w)) v e in
-      let own = chosen_own c w m.from (or_form_ok (chosen (choices_of c) w) m.from m.read) in
-      subst (λ x. shaped (Choice c) x ≡ x) m.makes (ap value.Chosen own.kind)
-  part_shaped (AllOr k) w v e = all_or_shaped value.AllOr (n.number k) (λ x. shaped (AllOr k) x ≡ x) (λ o. refl) w v e
-  part_shaped AllOrNumber w v e = all_or_shaped value.AllOrNumber number_of (λ x. shaped AllOrNumber x ≡ x) (λ o. refl) w v e
+rest_shaped : (n : Naming) (r : Rest) (xs : List ℕ) (ws : List (List ℕ)) → SayRest n r xs ws → shaped_rest r xs ≡ xs
+rest_shaped n Nothing xs ws h = sym h.1
+rest_shaped n (Names k) xs ws h = refl
+rest_shaped n Words xs ws h = refl
 
-  parts_shaped : (ps : List Place) (ws : List (List ℕ)) (vs : List PartValue) → read_parts n ps ws ≡ Ok vs → AllShaped ps vs
-  unfolding read_parts
-  parts_shaped [] ws [] e = tt
-  parts_shaped [] ws (v ∷ vs) e = cc
-  parts_shaped (p ∷ ps) [] vs e =
-      let m = made_of (λ (v : PartValue × List PartValue). v.0 ∷ v.1) (two_of (Err cause.Form) (read_parts n ps [])) vs e in
-      let no : Err cause.Form ≡ Ok m.from.0 = (two_read (Err cause.Form) (read_parts n ps []) m.from m.read).0 in cc
-  parts_shaped (p ∷ ps) (w ∷ ws) vs e =
-      let m = made_of (λ (v : PartValue × List PartValue). v.0 ∷ v.1) (two_of (read_part n p w) (read_parts n ps ws)) vs e in
-      let both = two_read (read_part n p w) (read_parts n ps ws) m.from m.read in
-      subst (λ x. AllShaped (p ∷ ps) x) m.makes (part_shaped p w m.from.0 both.0, parts_shaped ps ws m.from.1 both.1)
+line_shaped : (n : Naming) (row : Row) (ws : List (List ℕ)) (line : Line) → read_row n row ws ≡ Ok line → shaped_line row line ≡ line
+line_shaped n row ws line e =
+    let says = grammar.says n row line ws e in
+    let all = parts_hold n (λ p v. shaped p v ≡ v) (part_shaped n) row.parts line.values ws says.values in
+    rw (from_place row.parts line.values line.values 0 refl all, rest_shaped n row.rest line.rest (drop (length row.parts) ws) says.rest) refl
 
-  rest_shaped : (r : Rest) (ws : List (List ℕ)) (xs : List ℕ) → read_rest n r ws ≡ Ok xs → shaped_rest r xs ≡ xs
-  unfolding read_rest
-  rest_shaped Nothing ws xs e = by_test (length ws == 0) e
-    where
-      by_test : (t : Bool) → (if t then Ok [] else Err cause.Form) ≡ Ok xs → [] ≡ xs
-      by_test true e = cc
-      by_test false e = cc
-  rest_shaped (Names k) ws xs e = refl
-  rest_shaped Words ws xs e = refl
+-- data words are below 2^32
+pub each_small : (xs : List ℕ) (ws : List (List ℕ)) → SayEach IsHexadecimal xs ws → (length xs ≡ length ws) × (list_all (λ x. nat_lt x (2 ^ 32)) xs ≡ true)
+each_small [] [] h = (refl, refl)
+each_small [] (w ∷ ws) h = absurd h
+each_small (x ∷ xs) [] h = absurd h
+each_small (x ∷ xs) (w ∷ ws) h =
+    let more = each_small xs ws h.1 in
+    (ap suc more.0, and_from (nat_lt x (2 ^ 32)) (list_all (λ y. nat_lt y (2 ^ 32)) xs) (lt-ltb x (2 ^ 32) (word_small w x (hex_said w x h.0))) more.1)
 
-  line_shaped : (row : Row) (ws : List (List ℕ)) (line : Line) → read_row n row ws ≡ Ok line → shaped_line row line ≡ line
-  unfolding read_row
-  line_shaped row ws line e =
-      let m = made_of (λ (v : List PartValue × List ℕ). record { values = v.0; rest = v.1 })
-      (two_of (read_parts n row.parts ws) (read_rest n row.rest (drop (length row.parts) ws))) line e in
-      let both = two_read (read_parts n row.parts ws) (read_rest n row.rest (drop (length row.parts) ws)) m.from m.read in
-      subst (λ x. shaped_line row x ≡ x) m.makes
-      (rw (
-        from_place row.parts m.from.0 m.from.0 0 refl (parts_shaped row.parts ws m.from.0 both.0),
-        rest_shaped row.rest (drop (length row.parts) ws) m.from.1 both.1,
-      ) refl)
+-- and are read of eight digits
+words_from : (xs : List ℕ) → list_all (λ x. nat_lt x (2 ^ 32)) xs ≡ true → each_of word_of (map hex_word xs) ≡ Ok xs
+unfolding each_of two_of
+words_from [] h = refl
+words_from (x ∷ xs) h =
+    let both = and_parts (nat_lt x (2 ^ 32)) (list_all (λ y. nat_lt y (2 ^ 32)) xs) h in
+    rw (word_back x (ltb-true x (2 ^ 32) both.0), words_from xs both.1) refl
 
-pub same_word : (t : List ℕ) → bytes_eq t t ≡ true
-same_word t = search rules
+pub words_again : (n : Naming) (known : Known) (xs : List ℕ) → nat_le 1 (length xs) ≡ true → nat_le (length xs) 256 ≡ true →
+    list_all (λ x. nat_lt x (2 ^ 32)) xs ≡ true → read_rest n Words (rest_texts known Words xs) ≡ Ok xs
+unfolding read_rest rest_texts
+words_again n known xs some few small =
+    let long : length (map hex_word xs) ≡ length xs = length-map xs hex_word in rw (long, some, few) (words_from xs small)
 
--- all, or one that is read of its word and is no `all`
-pub all_or_reads : {A : Type 0} (make : Option A → PartValue) (one : List ℕ → Result A Cause) (text : A → List ℕ) (i : A) →
-    bytes_eq (text i) all_text ≡ false → one (text i) ≡ Ok i → all_or_of make one (text i) ≡ Ok (make (Some i))
-unfolding all_or_of
-all_or_reads make one text i other e = rw (other, e) refl
+-- the word of a part is printed as it was read
+abbrev pub is_kept_part : Place → Bool
+is_kept_part (Word t) = true
+is_kept_part (Name k) = true
+is_kept_part NewName = true
+is_kept_part Number = true
+is_kept_part DataWord = false
+is_kept_part FlagWord = false
+is_kept_part (Set s) = false
+is_kept_part (Choice c) = true
+is_kept_part (AllOr k) = true
+is_kept_part AllOrNumber = true
 
-pub all_reads : {A : Type 0} (make : Option A → PartValue) (one : List ℕ → Result A Cause) → all_or_of make one all_text ≡ Ok (make None)
-unfolding all_or_of
-all_reads make one = refl
+abbrev pub is_kept_rest : Rest → Bool
+is_kept_rest Nothing = true
+is_kept_rest (Names k) = true
+is_kept_rest Words = false
+
+abbrev pub is_kept : Row → Bool
+is_kept row = list_all is_kept_part row.parts && is_kept_rest row.rest
 
 module _ (n : Naming) (known : Known) (named : AreNamed n known) where
-  all_or_good : (k : Kind) (w : List ℕ) (v : PartValue) → all_or_of value.AllOr (n.number k) w ≡ Ok v → IsGood n known (AllOr k) v
-  unfolding all_or_of
-  all_or_good k w v e = by_test (bytes_eq w all_text) refl e
-    where
-      one : (i : ℕ) → bytes_eq w all_text ≡ false → n.number k w ≡ Ok i → IsGood n known (AllOr k) (value.AllOr (Some i))
-      one i is h = record { kind = refl; reads = all_or_reads value.AllOr (n.number k) (known k) i (rw (named.things k w i h) is) (rw (named.things k w i h) h) }
+  part_kept : (p : Place) (w : List ℕ) (v : PartValue) → is_kept_part p ≡ true → Says n p v w → part_text known p v ≡ w
+  part_kept (Word t) w v k h = sym h.0
+  part_kept (Name k) w v kept h = rw (h.2) (named.things k w h.0 h.1)
+  part_kept NewName w v kept h = rw (h.2) (named.new w h.0 h.1)
+  part_kept Number w v kept h = rw (h.2) (sym h.1.1)
+  part_kept DataWord w v kept h = cc
+  part_kept FlagWord w v kept h = cc
+  part_kept (Set s) w v kept h = cc
+  part_kept (Choice c) w v kept h = rw (h.2) (sym h.1.0)
+  part_kept (AllOr k) w v kept (inl h) = rw (h.1) (sym h.0)
+  part_kept (AllOr k) w v kept (inr h) = rw (h.1.2) (named.things k w h.1.0 h.1.1)
+  part_kept AllOrNumber w v kept (inl h) = rw (h.1) (sym h.0)
+  part_kept AllOrNumber w v kept (inr h) = rw (h.1.2) (sym h.1.1.1)
 
-      by_test : (b : Bool) → bytes_eq w all_text ≡ b →
-          (if b then Ok (value.AllOr None) else wrapped (λ i. value.AllOr (Some i)) (n.number k w)) ≡ Ok v → IsGood n known (AllOr k) v
-      by_test true is e =
-          let same : value.AllOr None ≡ v = cc in
-          subst (λ x. IsGood n known (AllOr k) x) same (record { kind = refl; reads = all_reads value.AllOr (n.number k) })
-      by_test false is e =
-          let m = made_of (λ i. value.AllOr (Some i)) (n.number k w) v e in
-          subst (λ x. IsGood n known (AllOr k) x) m.makes (one m.from is m.read)
+  parts_kept : (ps : List Place) (vs : List PartValue) (ws : List (List ℕ)) → list_all is_kept_part ps ≡ true → SayAll n ps vs ws →
+      part_texts known ps vs ++ drop (length ps) ws ≡ ws
+  unfolding part_texts
+  parts_kept [] [] ws kept h = refl
+  parts_kept [] (v ∷ vs) ws kept h = absurd h
+  parts_kept (p ∷ ps) vs [] kept h = absurd h
+  parts_kept (p ∷ ps) [] (w ∷ ws) kept h = absurd h
+  parts_kept (p ∷ ps) (v ∷ vs) (w ∷ ws) kept h =
+      let both = and_parts (is_kept_part p) (list_all is_kept_part ps) kept in rw (part_kept p w v both.0 h.0, parts_kept ps vs ws both.1 h.1) refl
 
-  all_or_number_good : (w : List ℕ) (v : PartValue) → all_or_of value.AllOrNumber number_of w ≡ Ok v → IsGood n known AllOrNumber v
-  unfolding all_or_of
-  all_or_number_good w v e = by_test (bytes_eq w all_text) refl e
-    where
-      one : (i : ℕ) → bytes_eq w all_text ≡ false → number_of w ≡ Ok i → IsGood n known AllOrNumber (value.AllOrNumber (Some i))
-      one i is h =
-          let says = number_says w i h in
-          let other : bytes_eq (decimal i) all_text ≡ false = subst (λ u. bytes_eq u all_text ≡ false) says.1 is in
-          record { kind = refl; reads = all_or_reads value.AllOrNumber number_of decimal i other (number_back i says.0) }
+  each_kept : (k : Kind) (xs : List ℕ) (ws : List (List ℕ)) → SayEach (λ i w. n.number k w ≡ Ok i) xs ws → map (known k) xs ≡ ws
+  each_kept k [] [] h = refl
+  each_kept k [] (w ∷ ws) h = absurd h
+  each_kept k (x ∷ xs) [] h = absurd h
+  each_kept k (x ∷ xs) (w ∷ ws) h = rw (named.things k w x h.0, each_kept k xs ws h.1) refl
 
-      by_test : (b : Bool) → bytes_eq w all_text ≡ b →
-          (if b then Ok (value.AllOrNumber None) else wrapped (λ i. value.AllOrNumber (Some i)) (number_of w)) ≡ Ok v → IsGood n known AllOrNumber v
-      by_test true is e =
-          let same : value.AllOrNumber None ≡ v = cc in
-          subst (λ x. IsGood n known AllOrNumber x) same (record { kind = refl; reads = all_reads value.AllOrNumber number_of })
-      by_test false is e =
-          let m = made_of (λ i. value.AllOrNumber (Some i)) (number_of w) v e in
-          subst (λ x. IsGood n known AllOrNumber x) m.makes (one m.from is m.read)
+  rest_kept : (r : Rest) (xs : List ℕ) (ws : List (List ℕ)) → is_kept_rest r ≡ true → SayRest n r xs ws → rest_texts known r xs ≡ ws
+  unfolding rest_texts
+  rest_kept Nothing xs ws kept h = sym h.0
+  rest_kept (Names k) xs ws kept h = each_kept k xs ws h
+  rest_kept Words xs ws kept h = cc
 
-  -- a part that is read is good
-  part_good : (p : Place) (w : List ℕ) (v : PartValue) → read_part n p w ≡ Ok v → IsGood n known p v
-  unfolding stands_for
-  part_good (Word t) w v e =
-      subst (λ x. IsGood n known (Word t) x) (stands_shaped t w v e) (record { kind = refl; reads = rw (same_word t) refl })
-  part_good (Name k) w v e =
-      let m = made_of value.Id (n.number k w) v e in
-      let again : n.number k (known k m.from) ≡ Ok m.from = rw (named.things k w m.from m.read) m.read in
-      subst (λ x. IsGood n known (Name k) x) m.makes (record { kind = refl; reads = ap (wrapped value.Id) again })
-  part_good NewName w v e =
-      let m = made_of value.NewName (n.fresh w) v e in
-      let again : n.fresh m.from ≡ Ok m.from = subst (λ u. n.fresh u ≡ Ok m.from) (sym (named.new w m.from m.read)) m.read in
-      subst (λ x. IsGood n known NewName x) m.makes (record { kind = refl; reads = ap (wrapped value.NewName) again })
-  part_good Number w v e =
-      let m = made_of value.Number (number_of w) v e in
-      subst (λ x. IsGood n known Number x) m.makes
-      (record { kind = refl; reads = ap (wrapped value.Number) (number_back m.from (number_says w m.from m.read).0) })
-  part_good DataWord w v e =
-      let m = made_of value.Word (word_of w) v e in
-      subst (λ x. IsGood n known DataWord x) m.makes (record { kind = refl; reads = ap (wrapped value.Word) (word_back m.from (word_small w m.from m.read)) })
-  part_good FlagWord w v e =
-      let m = made_of value.Word (word_of w) v e in
-      subst (λ x. IsGood n known FlagWord x) m.makes (record { kind = refl; reads = ap (wrapped value.Word) (flag_back m.from (word_small w m.from m.read)) })
-  part_good (Set s) w v e =
-      let m = made_of value.Set (set_from (rows_of s) w) v e in
-      subst (λ x. IsGood n known (Set s) x) m.makes (record { kind = refl; reads = ap (wrapped value.Set) (set_again s w m.from m.read) })
-  part_good (Choice c) w v e =
-      let m = made_of value.Chosen (or_form (chosen (choices_of c) w)) v e in
-      let own = chosen_own c w m.from (or_form_ok (chosen (choices_of c) w) m.from m.read) in
-      subst (λ x. IsGood n known (Choice c) x) m.makes
-      (record { kind = ap value.Chosen own.kind; reads = ap (λ o. wrapped value.Chosen (or_form o)) own.reads })
-  part_good (AllOr k) w v e = all_or_good k w v e
-  part_good AllOrNumber w v e = all_or_number_good w v e
+  -- a line whose parts are all kept is printed as it was read
+  pub line_kept : (row : Row) (line : Line) (ws : List (List ℕ)) → is_kept row ≡ true → read_row n row ws ≡ Ok line → line_words known row line ≡ ws
+  unfolding line_words
+  line_kept row line ws kept e =
+      let both = and_parts (list_all is_kept_part row.parts) (is_kept_rest row.rest) kept in
+      let says = grammar.says n row line ws e in
+      ap (λ us. part_texts known row.parts line.values ++ us) (rest_kept row.rest line.rest (drop (length row.parts) ws) both.1 says.rest)
+      ∙ parts_kept row.parts line.values ws both.0 says.values
 
-  parts_good : (ps : List Place) (ws : List (List ℕ)) (vs : List PartValue) → read_parts n ps ws ≡ Ok vs → AllGood n known ps vs
-  unfolding read_parts
-  parts_good [] ws [] e = tt
-  parts_good [] ws (v ∷ vs) e = cc
-  parts_good (p ∷ ps) [] vs e =
-      let m = made_of (λ (v : PartValue × List PartValue). v.0 ∷ v.1) (two_of (Err cause.Form) (read_parts n ps [])) vs e in
-      let no : Err cause.Form ≡ Ok m.from.0 = (two_read (Err cause.Form) (read_parts n ps []) m.from m.read).0 in cc
-  parts_good (p ∷ ps) (w ∷ ws) vs e =
-      let m = made_of (λ (v : PartValue × List PartValue). v.0 ∷ v.1) (two_of (read_part n p w) (read_parts n ps ws)) vs e in
-      let both = two_read (read_part n p w) (read_parts n ps ws) m.from m.read in
-      subst (λ x. AllGood n known (p ∷ ps) x) m.makes (part_good p w m.from.0 both.0, parts_good ps ws m.from.1 both.1)
+  -- what is said is read of its printed word
+  as_read : (p : Place) (w : List ℕ) (v : PartValue) → is_kept_part p ≡ true → Says n p v w → read_part n p (part_text known p v) ≡ Ok v
+  as_read p w v kept h = ap (read_part n p) (part_kept p w v kept h) ∙ part_said n p w v h
 
-  -- words that are read one by one are read again
-  each_again : (f : List ℕ → Result ℕ Cause) (text : ℕ → List ℕ) → ((w : List ℕ) (x : ℕ) → f w ≡ Ok x → f (text x) ≡ Ok x) →
-      (ws : List (List ℕ)) (xs : List ℕ) → each_of f ws ≡ Ok xs → (each_of f (map text xs) ≡ Ok xs) × (length xs ≡ length ws)
-  unfolding each_of two_of
-  each_again f text again [] [] e = (refl, refl)
-  each_again f text again [] (x ∷ xs) e = cc
-  each_again f text again (w ∷ ws) xs e =
-      let m = made_of (λ (v : ℕ × List ℕ). v.0 ∷ v.1) (two_of (f w) (each_of f ws)) xs e in
-      let both = two_read (f w) (each_of f ws) m.from m.read in
-      let more = each_again f text again ws m.from.1 both.1 in
-      subst (λ x. (each_of f (map text x) ≡ Ok x) × (length x ≡ length (w ∷ ws))) m.makes
-      (rw (again w m.from.0 both.0, more.0) refl, ap suc more.1)
+  part_reads : (p : Place) (w : List ℕ) (v : PartValue) → Says n p v w → read_part n p (part_text known p v) ≡ Ok v
+  part_reads (Word t) w v h = as_read (Word t) w v refl h
+  part_reads (Name k) w v h = as_read (Name k) w v refl h
+  part_reads NewName w v h = as_read NewName w v refl h
+  part_reads Number w v h = as_read Number w v refl h
+  part_reads DataWord w v h = rw (h.2) (ap (wrapped value.Word) (word_back h.0 (word_small w h.0 (hex_said w h.0 h.1))))
+  part_reads FlagWord w v h = rw (h.2) (ap (wrapped value.Word) (flag_back h.0 (word_small w h.0 (hex_said w h.0 h.1))))
+  part_reads (Set s) w v h = rw (h.2) (ap (wrapped value.Set) (set_again s w h.0 (set_said s w h.0 h.1)))
+  part_reads (Choice c) w v h = as_read (Choice c) w v refl h
+  part_reads (AllOr k) w v h = as_read (AllOr k) w v refl h
+  part_reads AllOrNumber w v h = as_read AllOrNumber w v refl h
 
-  counted : (ws : List (List ℕ)) (xs : List ℕ) (t : Bool) → (nat_le 1 (length ws) && nat_le (length ws) 256) ≡ t →
-      (if t then each_of word_of ws else Err cause.Form) ≡ Ok xs →
-      (if nat_le 1 (length (map hex_word xs)) && nat_le (length (map hex_word xs)) 256 then each_of word_of (map hex_word xs) else Err cause.Form) ≡ Ok xs
-  counted ws xs false is e = cc
-  counted ws xs true is e =
-      let all = each_again word_of hex_word (λ w x h. word_back x (word_small w x h)) ws xs e in
-      let long : length (map hex_word xs) ≡ length ws = length-map xs hex_word ∙ all.1 in
-      rw (long, is) all.0
+  part_good : (p : Place) (w : List ℕ) (v : PartValue) → Says n p v w → IsGood n known p v
+  part_good p w v h = record { kind = part_shaped n p w v h; reads = part_reads p w v h }
 
   -- the words up to the end are read again
-  rest_again : (r : Rest) (ws : List (List ℕ)) (xs : List ℕ) → read_rest n r ws ≡ Ok xs → read_rest n r (rest_texts known r xs) ≡ Ok xs
+  rest_again : (r : Rest) (xs : List ℕ) (ws : List (List ℕ)) → SayRest n r xs ws → read_rest n r (rest_texts known r xs) ≡ Ok xs
   unfolding read_rest rest_texts
-  rest_again Nothing ws xs e = by_test (length ws == 0) e
-    where
-      by_test : (t : Bool) → ends_if t ≡ Ok xs → ends_if true ≡ Ok xs
-      by_test true e = e
-      by_test false e = cc
-  rest_again (Names k) ws xs e = (each_again (n.number k) (known k) (λ w x h. rw (named.things k w x h) h) ws xs e).0
-  rest_again Words ws xs e = counted ws xs (nat_le 1 (length ws) && nat_le (length ws) 256) refl e
+  rest_again Nothing xs ws h = ap Ok (sym h.1)
+  rest_again (Names k) xs ws h = ap (each_of (n.number k)) (each_kept k xs ws h) ∙ rest_said n (Names k) xs ws h
+  rest_again Words xs ws h =
+      let all = each_small xs ws h.2 in
+      words_again n known xs (le-leb 1 (length xs) (omega (arith, all.0, h.0))) (le-leb (length xs) 256 (omega (arith, all.0, h.1))) all.1
 
   -- a line that is read is good
   line_good : (row : Row) (ws : List (List ℕ)) (line : Line) → read_row n row ws ≡ Ok line → IsGoodLine n known row line
-  unfolding read_row
   line_good row ws line e =
-      let m = made_of (λ (v : List PartValue × List ℕ). record { values = v.0; rest = v.1 })
-      (two_of (read_parts n row.parts ws) (read_rest n row.rest (drop (length row.parts) ws))) line e in
-      let both = two_read (read_parts n row.parts ws) (read_rest n row.rest (drop (length row.parts) ws)) m.from m.read in
-      subst (IsGoodLine n known row) m.makes
-      (record { values = parts_good row.parts ws m.from.0 both.0; rest = rest_again row.rest (drop (length row.parts) ws) m.from.1 both.1 })
+      let says = grammar.says n row line ws e in
+      record {
+        values = parts_hold n (IsGood n known) part_good row.parts line.values ws says.values;
+        rest = rest_again row.rest line.rest (drop (length row.parts) ws) says.rest;
+      }
 
 pub reads_again : ReadsAgain
 reads_again = record { good = line_good; shaped = line_shaped }

@@ -1,31 +1,8 @@
 -- What is read is what the words say; a cause is the first that is there.
-use Rattle.std.proofs.Common.{ℕ, ◌≡◌, ◌∙◌, ◌≢◌, ◌<◌, ◌≤◌, ◌^◌, ◌==◌, ◌&&◌, ◌⊎◌, inl, inr, not, nat_le, nat_lt, Bool, true, false, List, [], ◌∷◌, length, drop, get_or, decimal, Option, None, Some, Ok, Err, Result, refl, sym, ap, subst, arith, rules, if◌then◌else◌}
-use Rattle.std.specs.Char.{is_ascii_digit, digit_value}
-use Rattle.std.specs.List.{list_all}
-use Rattle.std.specs.Str.{bytes_eq}
-use Rattle.std.specs.Str.Parse.{digits_value, AllDigits}
-use Rattle.std.proofs.lemmas.Bool.{and_parts, ltb-true, leb-true, le-leb}
-use Rattle.std.proofs.lemmas.Bool.Decides.{nat_tests}
-use Rattle.std.proofs.lemmas.Fmt.{decimal-digits_value}
-use Rattle.std.proofs.lemmas.Slice.Eq.{bytes_eq-Decides}
+use Rattle.line_forms.proofs.Vocabulary.{ℕ, ◌≡◌, ◌∙◌, ◌≢◌, ◌<◌, ◌≤◌, ◌^◌, ◌==◌, ◌&&◌, ◌⊎◌, inl, inr, not, nat_le, nat_lt, Bool, true, false, List, [], ◌∷◌, length, drop, get_or, decimal, Option, None, Some, Ok, Err, Result, refl, sym, ap, subst, arith, rules, if◌then◌else◌, is_ascii_digit, digit_value, list_all, bytes_eq, digits_value, AllDigits, and_parts, ltb-true, leb-true, le-leb, nat_tests, decimal-digits_value, bytes_eq-Decides, is_number, is_data_word, data_word_of, number_digits, Cause, Chosen, Line, PartValue, Rest, Nothing, Names, Words, rank_of, wrapped, two_of, choices_of, chosen, IsGrammar, Place, Word, Name, NewName, Number, DataWord, FlagWord, Set, Choice, AllOr, AllOrNumber, Row, Naming, or_form, all_text, number_of, word_of, stands_for, all_or_of, read_part, read_parts, each_of, read_rest, read_row, IsDecimal, IsHexadecimal, IsAllOr, Says, SayAll, SayEach, SayRest, SaysLine, IsNoDecimal, IsNoHexadecimal, IsWrong, IsSomeWrong, IsEachWrong, IsRestWrong, IsLineWrong, IsFirstCause, rows_of, set_from}
 use Rattle.std.proofs.lemmas.Str.Parse.{IsNumeralModel, numerals_by_value, tells_digits}
-use Rattle.trace_words.specs.Words.{is_number, is_data_word, data_word_of}
-use Rattle.trace_words.proofs.Digits.{number_digits}
-use Rattle.line_forms.specs.declared.cause.Cause.{Cause}
 use Rattle.line_forms.specs.declared.cause.Cause.TheVariants as cause
-use Rattle.line_forms.specs.declared.choice.Choice.{Choice as Chosen}
-use Rattle.line_forms.specs.declared.form.Line.{Line}
-use Rattle.line_forms.specs.declared.part.PartValue.{PartValue}
 use Rattle.line_forms.specs.declared.part.PartValue.TheVariants as value
-use Rattle.line_forms.specs.declared.part.Rest.{Rest}
-use Rattle.line_forms.specs.declared.part.Rest.TheVariants.{Nothing, Names, Words}
-use Rattle.line_forms.specs.Causes.{rank_of, wrapped, two_of}
-use Rattle.line_forms.specs.Choices.{choices_of, chosen}
-use Rattle.line_forms.specs.Laws.{IsGrammar}
-use Rattle.line_forms.specs.Parts.{Place, Word, Name, NewName, Number, DataWord, FlagWord, Set, Choice, AllOr, AllOrNumber, Row}
-use Rattle.line_forms.specs.Reading.{Naming, or_form, all_text, number_of, word_of, stands_for, all_or_of, read_part, read_parts, each_of, read_rest, read_row}
-use Rattle.line_forms.specs.Says.{IsDecimal, IsHexadecimal, IsAllOr, Says, SayAll, SayEach, SayRest, SaysLine, IsNoDecimal, IsNoHexadecimal, IsWrong, IsSomeWrong, IsEachWrong, IsRestWrong, IsLineWrong, IsFirstCause}
-use Rattle.line_forms.specs.Sets.{rows_of, set_from}
 use Rattle.line_forms.proofs.Results.{made_of, two_read, failed, Lower, left_fails, right_fails, wrapped_low, either_fails, first_is}
 use Rattle.line_forms.proofs.ChoicesBack.{choice_says, choice_said}
 use Rattle.line_forms.proofs.SetsSay.{set_says, set_said, set_form}
@@ -162,7 +139,7 @@ wrong_number w c (inr h) =
     let large : nat_lt (digits_value 10 w) (2 ^ 64) ≡ false = grind (arith, nat_tests, h.1.1) in rw (h.1.0, large, h.0) refl
 
 -- what is there, or a word of no form
-pub or_form_ok : {A : Type 0} (found : Option A) (x : A) → or_form found ≡ Ok x → found ≡ Some x
+or_form_ok : {A : Type 0} (found : Option A) (x : A) → or_form found ≡ Ok x → found ≡ Some x
 or_form_ok None x e = cc
 or_form_ok (Some y) x e = cc
 
@@ -234,7 +211,7 @@ module _ (n : Naming) where
   part_says (AllOr k) w v e = all_or_says value.AllOr (n.number k) w (λ i u. n.number k u ≡ Ok i) (λ i h. h) v e
   part_says AllOrNumber w v e = all_or_says value.AllOrNumber number_of w IsDecimal (number_says w) v e
 
-  part_said : (p : Place) (w : List ℕ) (v : PartValue) → Says n p v w → read_part n p w ≡ Ok v
+  pub part_said : (p : Place) (w : List ℕ) (v : PartValue) → Says n p v w → read_part n p w ≡ Ok v
   unfolding stands_for
   part_said (Word t) w v h = rw (h.0, same, h.1) refl
     where
@@ -386,7 +363,7 @@ module _ (f : List ℕ → Result ℕ Cause) where
       wrapped_low (λ (v : ℕ × List ℕ). v.0 ∷ v.1) (two_of (f w) (each_of f ws)) d (joins.0, joins.1, omega (arith, joins.2, low.2))
 
 -- nothing stands behind the parts, where that is so
-abbrev pub ends_if : Bool → Result (List ℕ) Cause
+abbrev ends_if : Bool → Result (List ℕ) Cause
 ends_if t = if t then Ok [] else Err cause.Form
 
 -- 1 to 256 words
@@ -411,7 +388,7 @@ module _ (n : Naming) where
           let both = and_parts (nat_le 1 (length ws)) (nat_le (length ws) 256) is in
           (leb-true 1 (length ws) both.0, leb-true (length ws) 256 both.1, each_say word_of IsHexadecimal hex_says xs ws e)
 
-  rest_said : (r : Rest) (xs : List ℕ) (ws : List (List ℕ)) → SayRest n r xs ws → read_rest n r ws ≡ Ok xs
+  pub rest_said : (r : Rest) (xs : List ℕ) (ws : List (List ℕ)) → SayRest n r xs ws → read_rest n r ws ≡ Ok xs
   unfolding read_rest
   rest_said Nothing xs ws h = rw (h.0, h.1) refl
   rest_said (Names k) xs ws h = each_said (n.number k) (λ i w. n.number k w ≡ Ok i) (λ w x one. one) xs ws h

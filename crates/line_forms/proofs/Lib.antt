@@ -1,3 +1,4 @@
+pub mod Vocabulary
 pub mod EachWord
 pub mod WordsBack
 pub mod Apart

@@ -1,16 +1,7 @@
 -- Words that may stand in a line, and lines of them.
-use Rattle.std.proofs.Common.{get_or, ◌&&◌, ℕ, ◌≡◌, ◌+◌, ◌∙◌, eqb, nat_le, Bool, true, false, List, [], ◌∷◌, ◌++◌, length, refl, sym, ap, arith, length-append, append_assoc}
-use Rattle.std.specs.Char.{is_ascii_digit}
-use Rattle.std.specs.List.{All, AllByRecursion, list_all, join_with_byte}
-use Rattle.std.proofs.lemmas.Bool.{and_parts, and_from}
-use Rattle.std.proofs.lemmas.Bool.Decides.{nat_tests}
-use Rattle.std.proofs.lemmas.List.Folds.{list_all-append}
-use Rattle.std.proofs.lemmas.List.Splits.{slice_split_at, slice_split_none, join_with_byte-slice_split}
+use Rattle.line_forms.proofs.Vocabulary.{get_or, ◌&&◌, ℕ, ◌≡◌, ◌+◌, ◌∙◌, eqb, nat_le, Bool, true, false, List, [], ◌∷◌, ◌++◌, length, refl, sym, ap, arith, length-append, append_assoc, is_ascii_digit, All, AllByRecursion, list_all, join_with_byte, and_parts, and_from, nat_tests, list_all-append, slice_split_at, slice_split_none, join_with_byte-slice_split, passes_at, is_name, is_name_byte, is_letter, is_hex_digit, rest_of_line, line_text}
 use Rattle.trace_words.specs.Lines.{words_of, is_plain_byte}
 use Rattle.std.proofs.lemmas.List.Elements.{All-from_get_or}
-use Rattle.trace_words.proofs.Digits.{passes_at}
-use Rattle.trace_words.specs.Words.{is_name, is_name_byte, is_letter, is_hex_digit}
-use Rattle.line_forms.specs.Lines.{rest_of_line, line_text}
 
 -- the bytes of a list are apart from one that fails a test that they pass
 pub apart_from : (byte : ℕ) (p : ℕ → Bool) (xs : List ℕ) → ((b : ℕ) → p b ≡ true → eqb b byte ≡ false) → list_all p xs ≡ true →

@@ -1,9 +1,6 @@
 -- Results with causes: what both parts of two give, and the earlier of two causes.
-use Rattle.std.proofs.Common.{ℕ, zero, suc, ◌≡◌, ◌∙◌, ◌≤◌, ◌⊎◌, inl, inr, nat_le, Bool, true, false, Ok, Err, Result, refl, sym, ap, arith, if◌then◌else◌}
-use Rattle.std.proofs.lemmas.Bool.Decides.{nat_tests}
-use Rattle.line_forms.specs.declared.cause.Cause.{Cause}
+use Rattle.line_forms.proofs.Vocabulary.{ℕ, zero, suc, ◌≡◌, ◌∙◌, ◌≤◌, ◌⊎◌, inl, inr, nat_le, Bool, true, false, Ok, Err, Result, refl, sym, ap, arith, if◌then◌else◌, nat_tests, Cause, rank_of, earlier_of, wrapped, two_of}
 use Rattle.line_forms.specs.declared.cause.Cause.TheVariants as cause
-use Rattle.line_forms.specs.Causes.{rank_of, earlier_of, wrapped, two_of}
 
 -- both parts were read
 pub two_read : {A B : Type 0} (a : Result A Cause) (b : Result B Cause) (v : A × B) → two_of a b ≡ Ok v → (a ≡ Ok v.0) × (b ≡ Ok v.1)

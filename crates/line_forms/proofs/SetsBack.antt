@@ -1,18 +1,7 @@
 -- A printed set is read as what it was printed from: each of the sets is tried.
-use Rattle.std.proofs.Common.{ℕ, zero, suc, ◌≡◌, ◌<◌, ◌^◌, ◌==◌, ◌+◌, ◌-◌, bit_and, bit_or, Bool, true, false, List, [], ◌∷◌, length, Option, Some, None, Result, Ok, Err, refl, subst, rules, arith, lit≤, if◌then◌else◌}
-use Rattle.std.specs.List.{list_all, AllByRecursion}
-use Rattle.std.specs.Str.{bytes_eq}
-use Rattle.line_forms.specs.declared.cause.Cause.{Cause}
+use Rattle.line_forms.proofs.Vocabulary.{ℕ, zero, suc, ◌≡◌, ◌<◌, ◌^◌, ◌==◌, ◌+◌, ◌-◌, bit_and, bit_or, Bool, true, false, List, [], ◌∷◌, length, Option, Some, None, Result, Ok, Err, refl, subst, rules, arith, lit≤, if◌then◌else◌, list_all, AllByRecursion, bytes_eq, Cause, SetOf, rows_of, with_bit, set_in, set_from, set_text, row_of, pieces_at, and_parts, nat_tests, length-slice_split, or_lt, le_or_r}
 use Rattle.line_forms.specs.declared.cause.Cause.TheVariants as cause
-use Rattle.line_forms.specs.declared.sets.SetOf.{SetOf}
 use Rattle.line_forms.specs.declared.sets.SetOf.TheVariants as set
-use Rattle.line_forms.specs.Sets.{rows_of, with_bit, set_in, set_from, set_text}
-use Rattle.trace_words.specs.Rows.{row_of}
-use Rattle.trace_words.specs.Cut.{pieces_at}
-use Rattle.std.proofs.lemmas.Bool.{and_parts}
-use Rattle.std.proofs.lemmas.Bool.Decides.{nat_tests}
-use Rattle.std.proofs.lemmas.List.Splits.{length-slice_split}
-use Rattle.std.proofs.lemmas.Nat.{or_lt, le_or_r}
 
 -- the numbers below another
 unfoldable pub below : ℕ → List ℕ

@@ -1,20 +1,7 @@
 -- A word is read as a set exactly where it is names of the set's table with bars between, each at most once.
-use Rattle.std.proofs.Common.{ℕ, ◌≡◌, ◌≢◌, ◌∙◌, ◌<◌, ◌==◌, ◌||◌, inl, inr, not, bit_and, bit_or, eqb, Bool, true, false, List, [], ◌∷◌, map, Option, Some, None, Result, Ok, Err, refl, sym, ap, subst, rules, arith, if◌then◌else◌}
-use Rattle.std.specs.List.{list_all, All, AllByRecursion, join_with_byte}
-use Rattle.std.specs.Str.{bytes_eq}
-use Rattle.std.proofs.lemmas.Bool.{and_parts}
-use Rattle.std.proofs.lemmas.Bool.Decides.{nat_tests}
-use Rattle.std.proofs.lemmas.List.Splits.{slice_split_at, slice_split_none, join_with_byte-slice_split}
-use Rattle.std.proofs.lemmas.Nat.{and_or_self, and_or_apart}
-use Rattle.std.proofs.lemmas.Slice.Eq.{bytes_eq-Decides}
-use Rattle.trace_words.specs.Cut.{pieces_at}
-use Rattle.trace_words.specs.Rows.{row_of}
-use Rattle.line_forms.specs.declared.cause.Cause.{Cause}
+use Rattle.line_forms.proofs.Vocabulary.{ℕ, ◌≡◌, ◌≢◌, ◌∙◌, ◌<◌, ◌==◌, ◌||◌, inl, inr, not, bit_and, bit_or, eqb, Bool, true, false, List, [], ◌∷◌, map, Option, Some, None, Result, Ok, Err, refl, sym, ap, subst, rules, arith, if◌then◌else◌, list_all, All, AllByRecursion, join_with_byte, bytes_eq, and_parts, nat_tests, slice_split_at, slice_split_none, join_with_byte-slice_split, and_or_self, and_or_apart, bytes_eq-Decides, pieces_at, row_of, Cause, SetOf, IsAmong, AreNamesOf, bits_of, IsSetOf, rows_of, with_bit, set_in, set_from}
 use Rattle.line_forms.specs.declared.cause.Cause.TheVariants as cause
-use Rattle.line_forms.specs.declared.sets.SetOf.{SetOf}
 use Rattle.line_forms.specs.declared.sets.SetOf.TheVariants as set
-use Rattle.line_forms.specs.Says.{IsAmong, AreNamesOf, bits_of, IsSetOf}
-use Rattle.line_forms.specs.Sets.{rows_of, with_bit, set_in, set_from}
 use Rattle.line_forms.proofs.PlainWords.{apart_from}
 use Rattle.line_forms.proofs.SetsBack.{IsBit, bits, is_some_list, some_pieces}
 

@@ -1,35 +1,13 @@
 -- What is read passes the tests of its parts, and what passes them is read of its own words.
-use Rattle.std.proofs.Common.{ℕ, suc, ◌≡◌, ◌≢◌, ◌∙◌, ◌+◌, ◌<◌, ◌^◌, ◌&&◌, ◌⊎◌, inl, inr, not, nat_le, nat_lt, Bool, true, false, List, [], ◌∷◌, ◌++◌, length, map, drop, decimal, Option, None, Some, Ok, Err, refl, sym, ap, subst, add-one, arith}
-use Rattle.std.specs.List.{list_all}
-use Rattle.std.specs.Str.{bytes_eq}
-use Rattle.std.proofs.lemmas.Bool.{and_parts, and_from, lt-ltb, le-leb, ltb-true}
-use Rattle.std.proofs.lemmas.List.{length-map}
-use Rattle.std.proofs.lemmas.List.Folds.{list_all-append}
-use Rattle.std.proofs.lemmas.Slice.Eq.{bytes_eq-Decides}
-use Rattle.trace_words.specs.Words.{is_number}
-use Rattle.line_forms.specs.declared.cause.Cause.TheVariants as cause
-use Rattle.line_forms.specs.declared.form.Line.{Line}
-use Rattle.line_forms.specs.declared.kind.Kind.{Kind}
-use Rattle.line_forms.specs.declared.part.PartValue.{PartValue}
+use Rattle.line_forms.proofs.Vocabulary.{ℕ, ◌≡◌, ◌≢◌, ◌∙◌, ◌+◌, ◌<◌, ◌^◌, ◌&&◌, inl, inr, not, nat_le, nat_lt, Bool, true, false, List, [], ◌∷◌, ◌++◌, length, map, drop, decimal, Option, None, Some, Ok, refl, sym, ap, subst, add-one, arith, list_all, bytes_eq, and_parts, and_from, lt-ltb, le-leb, ltb-true, list_all-append, bytes_eq-Decides, is_number, Line, Kind, PartValue, Rest, Nothing, Names, Words, wrapped, two_of, choices_of, chosen, choice_text, shaped, shaped_from, shaped_rest, shaped_line, AllGood, IsGoodLine, AreNamed, Place, Word, Name, NewName, Number, DataWord, FlagWord, Set, Choice, AllOr, AllOrNumber, Row, Known, part_text, rest_texts, Naming, or_form, all_text, number_of, all_or_of, read_part, each_of, read_rest, read_row, IsHexadecimal, Says, SayAll, SayEach, SayRest, id_in, name_in, number_in, word_in, choice_in, all_or_in, all_or_number_in, value_at}
 use Rattle.line_forms.specs.declared.part.PartValue.TheVariants as value
-use Rattle.line_forms.specs.declared.part.Rest.{Rest}
-use Rattle.line_forms.specs.declared.part.Rest.TheVariants.{Nothing, Names, Words}
-use Rattle.line_forms.specs.Causes.{wrapped, two_of}
-use Rattle.line_forms.specs.Choices.{choices_of, chosen, choice_text}
-use Rattle.line_forms.specs.Laws.{shaped, shaped_from, shaped_rest, shaped_line, AllGood, IsGoodLine, AreNamed}
-use Rattle.line_forms.specs.Lines.{hex_word}
-use Rattle.line_forms.specs.Parts.{Place, Word, Name, NewName, Number, DataWord, FlagWord, Set, Choice, AllOr, AllOrNumber, Row}
-use Rattle.line_forms.specs.Printing.{Known, part_text, rest_texts}
-use Rattle.line_forms.specs.Reading.{Naming, or_form, all_text, number_of, word_of, all_or_of, stands_for, read_part, read_parts, each_of, read_rest, read_row}
-use Rattle.line_forms.specs.Says.{IsDecimal, IsHexadecimal, SayEach}
-use Rattle.line_forms.specs.Sets.{rows_of, set_from}
 use Rattle.line_forms.specs.Sound.{all_of, of_some, sound_tests, sound_rest, named_tests, named_rest, all_tests, is_sound_line, is_named_line}
-use Rattle.line_forms.specs.Values.{id_in, name_in, number_in, word_in, set_in, choice_in, all_or_in, all_or_number_in, value_at}
+use Rattle.line_forms.specs.Values.{set_in}
 use Rattle.line_forms.proofs.ChoicesBack.{as_own}
-use Rattle.line_forms.proofs.Good.{value_there, all_or_reads, all_reads, same_word}
-use Rattle.line_forms.proofs.Grammar.{number_says, all_or_says, hex_said, rest_say}
-use Rattle.line_forms.proofs.Results.{made_of, two_read}
+use Rattle.line_forms.proofs.Good.{value_there, each_small, words_again}
+use Rattle.line_forms.proofs.Grammar.{grammar, hex_said, not_all, part_said}
 use Rattle.line_forms.proofs.SetsBack.{set_back, set_fits}
+use Rattle.line_forms.proofs.SetsSay.{set_said}
 use Rattle.line_forms.proofs.WordsBack.{number_back, word_back, word_small, flag_back}
 
 -- each of some tests is passed
@@ -74,110 +52,73 @@ not_true false h = refl
 
 module _ (n : Naming) where
   -- what is read passes
-  module _ (test : Place → PartValue → List Bool) (passes : (p : Place) (w : List ℕ) (v : PartValue) → read_part n p w ≡ Ok v → pass (test p v) ≡ true) where
-    parts_pass : (ps : List Place) (ws : List (List ℕ)) (vs : List PartValue) (more : List Bool) → read_parts n ps ws ≡ Ok vs → pass more ≡ true →
+  module _ (test : Place → PartValue → List Bool) (passes : (p : Place) (w : List ℕ) (v : PartValue) → Says n p v w → pass (test p v) ≡ true) where
+    parts_pass : (ps : List Place) (vs : List PartValue) (ws : List (List ℕ)) (more : List Bool) → SayAll n ps vs ws → pass more ≡ true →
         pass (all_tests test ps vs more) ≡ true
-    unfolding read_parts
-    parts_pass [] ws vs more e h = h
-    parts_pass (p ∷ ps) [] vs more e h =
-        let m = made_of (λ (v : PartValue × List PartValue). v.0 ∷ v.1) (two_of (Err cause.Form) (read_parts n ps [])) vs e in
-        let no : Err cause.Form ≡ Ok m.from.0 = (two_read (Err cause.Form) (read_parts n ps []) m.from m.read).0 in cc
-    parts_pass (p ∷ ps) (w ∷ ws) vs more e h =
-        let m = made_of (λ (v : PartValue × List PartValue). v.0 ∷ v.1) (two_of (read_part n p w) (read_parts n ps ws)) vs e in
-        let both = two_read (read_part n p w) (read_parts n ps ws) m.from m.read in
-        subst (λ x. pass (all_tests test (p ∷ ps) x more) ≡ true) m.makes
-        (pass_join (test p m.from.0) (all_tests test ps m.from.1 more) (passes p w m.from.0 both.0) (parts_pass ps ws m.from.1 more both.1 h))
+    parts_pass [] [] ws more h m = m
+    parts_pass [] (v ∷ vs) ws more h m = absurd h
+    parts_pass (p ∷ ps) vs [] more h m = absurd h
+    parts_pass (p ∷ ps) [] (w ∷ ws) more h m = absurd h
+    parts_pass (p ∷ ps) (v ∷ vs) (w ∷ ws) more h m = pass_join (test p v) (all_tests test ps vs more) (passes p w v h.0) (parts_pass ps vs ws more h.1 m)
 
-    line_passes : (rest : List ℕ → List Bool) (row : Row) (ws : List (List ℕ)) (line : Line) →
-        ((xs : List ℕ) (us : List (List ℕ)) → read_rest n row.rest us ≡ Ok xs → pass (rest xs) ≡ true) → read_row n row ws ≡ Ok line →
-        all_of (all_tests test row.parts line.values (rest line.rest)) ≡ true
-    unfolding read_row
-    line_passes rest row ws line others e =
-        let m = made_of (λ (v : List PartValue × List ℕ). record { values = v.0; rest = v.1 })
-        (two_of (read_parts n row.parts ws) (read_rest n row.rest (drop (length row.parts) ws))) line e in
-        let both = two_read (read_parts n row.parts ws) (read_rest n row.rest (drop (length row.parts) ws)) m.from m.read in
-        subst (λ x. all_of (all_tests test row.parts x.values (rest x.rest)) ≡ true) m.makes
-        (all_from (all_tests test row.parts m.from.0 (rest m.from.1))
-        (parts_pass row.parts ws m.from.0 (rest m.from.1) both.0 (others m.from.1 (drop (length row.parts) ws) both.1)))
+    line_passes : (row : Row) (ws : List (List ℕ)) (line : Line) (more : List Bool) → pass more ≡ true → read_row n row ws ≡ Ok line →
+        pass (all_tests test row.parts line.values more) ≡ true
+    line_passes row ws line more m e = parts_pass row.parts line.values ws more (grammar.says n row line ws e).values m
 
-  sound_part : (p : Place) (w : List ℕ) (v : PartValue) → read_part n p w ≡ Ok v → pass (sound_tests p v) ≡ true
-  sound_part (Word t) w v e = refl
-  sound_part (Name k) w v e = refl
-  sound_part NewName w v e = refl
-  sound_part Number w v e =
-      let m = made_of value.Number (number_of w) v e in
-      subst (λ x. pass (sound_tests Number x) ≡ true) m.makes
-      (one_pass (nat_lt m.from (2 ^ 64)) (lt-ltb m.from (2 ^ 64) (number_says w m.from m.read).0))
-  sound_part DataWord w v e =
-      let m = made_of value.Word (word_of w) v e in
-      subst (λ x. pass (sound_tests DataWord x) ≡ true) m.makes
-      (one_pass (nat_lt m.from (2 ^ 32)) (lt-ltb m.from (2 ^ 32) (word_small w m.from m.read)))
-  sound_part FlagWord w v e =
-      let m = made_of value.Word (word_of w) v e in
-      subst (λ x. pass (sound_tests FlagWord x) ≡ true) m.makes
-      (one_pass (nat_lt m.from (2 ^ 32)) (lt-ltb m.from (2 ^ 32) (word_small w m.from m.read)))
-  sound_part (Set s) w v e =
-      let m = made_of value.Set (set_from (rows_of s) w) v e in
-      let fit = set_fits s w m.from m.read in
-      subst (λ x. pass (sound_tests (Set s) x) ≡ true) m.makes
-      (and_from (nat_lt 0 m.from) (nat_lt m.from 128 && true) (lt-ltb 0 m.from fit.0) (one_pass (nat_lt m.from 128) (lt-ltb m.from 128 fit.1)))
-  sound_part (Choice c) w v e = refl
-  sound_part (AllOr k) w v e = refl
-  sound_part AllOrNumber w v e = by_case (all_or_says value.AllOrNumber number_of w IsDecimal (number_says w) v e)
-    where
-      by_case : ((w ≡ all_text) × (v ≡ value.AllOrNumber None)) ⊎ ((w ≢ all_text) × ((i : ℕ) × IsDecimal i w × (v ≡ value.AllOrNumber (Some i)))) →
-          pass (sound_tests AllOrNumber v) ≡ true
-      by_case (inl h) = rw h.1 refl
-      by_case (inr h) = rw (h.1.2) (one_pass (nat_lt h.1.0 (2 ^ 64)) (lt-ltb h.1.0 (2 ^ 64) h.1.1.0))
+  hex_pass : (w : List ℕ) (i : ℕ) → IsHexadecimal i w → pass (nat_lt i (2 ^ 32) ∷ []) ≡ true
+  hex_pass w i h = one_pass (nat_lt i (2 ^ 32)) (lt-ltb i (2 ^ 32) (word_small w i (hex_said w i h)))
 
-  each_small : (xs : List ℕ) (ws : List (List ℕ)) → SayEach IsHexadecimal xs ws → (length xs ≡ length ws) × (list_all (λ x. nat_lt x (2 ^ 32)) xs ≡ true)
-  each_small [] [] h = (refl, refl)
-  each_small [] (w ∷ ws) h = absurd h
-  each_small (x ∷ xs) [] h = absurd h
-  each_small (x ∷ xs) (w ∷ ws) h =
-      let more = each_small xs ws h.1 in
-      (ap suc more.0, and_from (nat_lt x (2 ^ 32)) (list_all (λ y. nat_lt y (2 ^ 32)) xs) (lt-ltb x (2 ^ 32) (word_small w x (hex_said w x h.0))) more.1)
+  sound_part : (p : Place) (w : List ℕ) (v : PartValue) → Says n p v w → pass (sound_tests p v) ≡ true
+  sound_part (Word t) w v h = refl
+  sound_part (Name k) w v h = refl
+  sound_part NewName w v h = refl
+  sound_part Number w v h = rw (h.2) (one_pass (nat_lt h.0 (2 ^ 64)) (lt-ltb h.0 (2 ^ 64) h.1.0))
+  sound_part DataWord w v h = rw (h.2) (hex_pass w h.0 h.1)
+  sound_part FlagWord w v h = rw (h.2) (hex_pass w h.0 h.1)
+  sound_part (Set s) w v h =
+      let fit = set_fits s w h.0 (set_said s w h.0 h.1) in
+      rw (h.2) (and_from (nat_lt 0 h.0) (nat_lt h.0 128 && true) (lt-ltb 0 h.0 fit.0) (one_pass (nat_lt h.0 128) (lt-ltb h.0 128 fit.1)))
+  sound_part (Choice c) w v h = refl
+  sound_part (AllOr k) w v h = refl
+  sound_part AllOrNumber w v (inl h) = rw (h.1) refl
+  sound_part AllOrNumber w v (inr h) = rw (h.1.2) (one_pass (nat_lt h.1.0 (2 ^ 64)) (lt-ltb h.1.0 (2 ^ 64) h.1.1.0))
 
-  rest_sound : (r : Rest) (xs : List ℕ) (ws : List (List ℕ)) → read_rest n r ws ≡ Ok xs → pass (sound_rest r xs) ≡ true
-  rest_sound Nothing xs ws e = refl
-  rest_sound (Names k) xs ws e = refl
-  rest_sound Words xs ws e =
-      let says = rest_say n Words xs ws e in
-      let all = each_small xs ws says.2 in
-      and_from (nat_le 1 (length xs)) (nat_le (length xs) 256 && (list_all (λ x. nat_lt x (2 ^ 32)) xs && true)) (le-leb 1 (length xs) (omega (arith, all.0, says.0)))
-      (and_from (nat_le (length xs) 256) (list_all (λ x. nat_lt x (2 ^ 32)) xs && true) (le-leb (length xs) 256 (omega (arith, all.0, says.1)))
+  rest_sound : (r : Rest) (xs : List ℕ) (ws : List (List ℕ)) → SayRest n r xs ws → pass (sound_rest r xs) ≡ true
+  rest_sound Nothing xs ws h = refl
+  rest_sound (Names k) xs ws h = refl
+  rest_sound Words xs ws h =
+      let all = each_small xs ws h.2 in
+      and_from (nat_le 1 (length xs)) (nat_le (length xs) 256 && (list_all (λ x. nat_lt x (2 ^ 32)) xs && true)) (le-leb 1 (length xs) (omega (arith, all.0, h.0)))
+      (and_from (nat_le (length xs) 256) (list_all (λ x. nat_lt x (2 ^ 32)) xs && true) (le-leb (length xs) 256 (omega (arith, all.0, h.1)))
       (one_pass (list_all (λ x. nat_lt x (2 ^ 32)) xs) all.1))
 
   -- what is read is sound
   pub sound_read : (row : Row) (ws : List (List ℕ)) (line : Line) → read_row n row ws ≡ Ok line → is_sound_line row line ≡ true
-  sound_read row ws line e = line_passes sound_tests sound_part (sound_rest row.rest) row ws line (λ xs us h. rest_sound row.rest xs us h) e
+  sound_read row ws line e =
+      let rest = rest_sound row.rest line.rest (drop (length row.parts) ws) (grammar.says n row line ws e).rest in
+      all_from (all_tests sound_tests row.parts line.values (sound_rest row.rest line.rest))
+      (line_passes sound_tests sound_part row ws line (sound_rest row.rest line.rest) rest e)
 
   -- what is read names things
   module _ (counts : Kind → ℕ) (known : Known) (named : AreNamed n known) (below : (k : Kind) (w : List ℕ) (i : ℕ) → n.number k w ≡ Ok i → nat_lt i (counts k) ≡ true) where
-    named_part : (p : Place) (w : List ℕ) (v : PartValue) → read_part n p w ≡ Ok v → pass (named_tests counts known p v) ≡ true
-    named_part (Word t) w v e = refl
-    named_part (Name k) w v e =
-        let m = made_of value.Id (n.number k w) v e in
-        subst (λ x. pass (named_tests counts known (Name k) x) ≡ true) m.makes (one_pass (nat_lt m.from (counts k)) (below k w m.from m.read))
-    named_part NewName w v e = refl
-    named_part Number w v e = refl
-    named_part DataWord w v e = refl
-    named_part FlagWord w v e = refl
-    named_part (Set s) w v e = refl
-    named_part (Choice c) w v e = refl
-    named_part (AllOr k) w v e = by_case (all_or_says value.AllOr (n.number k) w (λ i u. n.number k u ≡ Ok i) (λ i h. h) v e)
-      where
-        by_case : ((w ≡ all_text) × (v ≡ value.AllOr None)) ⊎ ((w ≢ all_text) × ((i : ℕ) × (n.number k w ≡ Ok i) × (v ≡ value.AllOr (Some i)))) →
-            pass (named_tests counts known (AllOr k) v) ≡ true
-        by_case (inl h) = rw h.1 refl
-        by_case (inr h) =
-            let i = h.1.0 in
-            let other : not (bytes_eq (known k i) all_text) ≡ true =
-            subst (λ u. not (bytes_eq u all_text) ≡ true) (sym (named.things k w i h.1.1)) (other_words w all_text h.0) in
-            rw (h.1.2)
-            (one_pass (nat_lt i (counts k) && not (bytes_eq (known k i) all_text))
-            (and_from (nat_lt i (counts k)) (not (bytes_eq (known k i) all_text)) (below k w i h.1.1) other))
-    named_part AllOrNumber w v e = refl
+    named_part : (p : Place) (w : List ℕ) (v : PartValue) → Says n p v w → pass (named_tests counts known p v) ≡ true
+    named_part (Word t) w v h = refl
+    named_part (Name k) w v h = rw (h.2) (one_pass (nat_lt h.0 (counts k)) (below k w h.0 h.1))
+    named_part NewName w v h = refl
+    named_part Number w v h = refl
+    named_part DataWord w v h = refl
+    named_part FlagWord w v h = refl
+    named_part (Set s) w v h = refl
+    named_part (Choice c) w v h = refl
+    named_part (AllOr k) w v (inl h) = rw (h.1) refl
+    named_part (AllOr k) w v (inr h) =
+        let i = h.1.0 in
+        let other : not (bytes_eq (known k i) all_text) ≡ true =
+        subst (λ u. not (bytes_eq u all_text) ≡ true) (sym (named.things k w i h.1.1)) (other_words w all_text h.0) in
+        rw (h.1.2)
+        (one_pass (nat_lt i (counts k) && not (bytes_eq (known k i) all_text))
+        (and_from (nat_lt i (counts k)) (not (bytes_eq (known k i) all_text)) (below k w i h.1.1) other))
+    named_part AllOrNumber w v h = refl
 
     each_below : (k : Kind) (xs : List ℕ) (ws : List (List ℕ)) → SayEach (λ i w. n.number k w ≡ Ok i) xs ws → list_all (λ i. nat_lt i (counts k)) xs ≡ true
     each_below k [] [] h = refl
@@ -186,14 +127,16 @@ module _ (n : Naming) where
     each_below k (x ∷ xs) (w ∷ ws) h =
         and_from (nat_lt x (counts k)) (list_all (λ i. nat_lt i (counts k)) xs) (below k w x h.0) (each_below k xs ws h.1)
 
-    rest_named : (r : Rest) (xs : List ℕ) (ws : List (List ℕ)) → read_rest n r ws ≡ Ok xs → pass (named_rest counts r xs) ≡ true
-    rest_named Nothing xs ws e = refl
-    rest_named (Names k) xs ws e = one_pass (list_all (λ i. nat_lt i (counts k)) xs) (each_below k xs ws (rest_say n (Names k) xs ws e))
-    rest_named Words xs ws e = refl
+    rest_named : (r : Rest) (xs : List ℕ) (ws : List (List ℕ)) → SayRest n r xs ws → pass (named_rest counts r xs) ≡ true
+    rest_named Nothing xs ws h = refl
+    rest_named (Names k) xs ws h = one_pass (list_all (λ i. nat_lt i (counts k)) xs) (each_below k xs ws h)
+    rest_named Words xs ws h = refl
 
     pub named_read : (row : Row) (ws : List (List ℕ)) (line : Line) → read_row n row ws ≡ Ok line → is_named_line counts known row line ≡ true
     named_read row ws line e =
-        line_passes (named_tests counts known) named_part (named_rest counts row.rest) row ws line (λ xs us h. rest_named row.rest xs us h) e
+        let rest = rest_named row.rest line.rest (drop (length row.parts) ws) (grammar.says n row line ws e).rest in
+        all_from (all_tests (named_tests counts known) row.parts line.values (named_rest counts row.rest line.rest))
+        (line_passes (named_tests counts known) named_part row ws line (named_rest counts row.rest line.rest) rest e)
 
 -- the test of a new name
 abbrev pub new_tests : (List ℕ → Bool) → Place → PartValue → List Bool
@@ -210,24 +153,20 @@ new_tests new AllOrNumber v = []
 
 -- what is read declares new names
 module _ (n : Naming) (new : List ℕ → Bool) (fresh : (w m : List ℕ) → n.fresh w ≡ Ok m → new m ≡ true) where
-  new_part : (p : Place) (w : List ℕ) (v : PartValue) → read_part n p w ≡ Ok v → pass (new_tests new p v) ≡ true
-  new_part (Word t) w v e = refl
-  new_part (Name k) w v e = refl
-  new_part NewName w v e =
-      let m = made_of value.NewName (n.fresh w) v e in
-      subst (λ x. pass (new_tests new NewName x) ≡ true) m.makes (one_pass (new m.from) (fresh w m.from m.read))
-  new_part Number w v e = refl
-  new_part DataWord w v e = refl
-  new_part FlagWord w v e = refl
-  new_part (Set s) w v e = refl
-  new_part (Choice c) w v e = refl
-  new_part (AllOr k) w v e = refl
-  new_part AllOrNumber w v e = refl
+  new_part : (p : Place) (w : List ℕ) (v : PartValue) → Says n p v w → pass (new_tests new p v) ≡ true
+  new_part (Word t) w v h = refl
+  new_part (Name k) w v h = refl
+  new_part NewName w v h = rw (h.2) (one_pass (new h.0) (fresh w h.0 h.1))
+  new_part Number w v h = refl
+  new_part DataWord w v h = refl
+  new_part FlagWord w v h = refl
+  new_part (Set s) w v h = refl
+  new_part (Choice c) w v h = refl
+  new_part (AllOr k) w v h = refl
+  new_part AllOrNumber w v h = refl
 
   pub new_read : (row : Row) (ws : List (List ℕ)) (line : Line) → read_row n row ws ≡ Ok line → pass (all_tests (new_tests new) row.parts line.values []) ≡ true
-  new_read row ws line e =
-      all_each (all_tests (new_tests new) row.parts line.values [])
-      (line_passes n (new_tests new) new_part (λ xs. []) row ws line (λ xs us h. refl) e)
+  new_read row ws line e = line_passes n (new_tests new) new_part row ws line [] refl e
 
 -- `all` is no number
 no_number : (i : ℕ) → number_of all_text ≡ Ok i → ⊥
@@ -251,8 +190,7 @@ module _ (n : Naming) (known : Known) (counts : Kind → ℕ) (new : List ℕ �
 
   part_from : (p : Place) (v : PartValue) → shaped p v ≡ v → pass (sound_tests p v) ≡ true → pass (named_tests counts known p v) ≡ true →
       pass (new_tests new p v) ≡ true → read_part n p (part_text known p v) ≡ Ok v
-  unfolding stands_for
-  part_from (Word t) v is s m f = rw (same_word t) (ap Ok is)
+  part_from (Word t) v is s m f = part_said n (Word t) t v (refl, sym is)
   part_from (Name k) v is s m f =
       ap (wrapped value.Id) (called k (id_in v) (pass_one (nat_lt (id_in v) (counts k)) m)) ∙ ap Ok is
   part_from NewName v is s m f = ap (wrapped value.NewName) (fresh (name_in v) (pass_one (new (name_in v)) f)) ∙ ap Ok is
@@ -273,20 +211,21 @@ module _ (n : Naming) (known : Known) (counts : Kind → ℕ) (new : List ℕ �
     where
       by_case : (o : Option ℕ) → pass (of_some (λ i. nat_lt i (counts k) && not (bytes_eq (known k i) all_text)) o) ≡ true →
           all_or_of value.AllOr (n.number k) (part_text known (AllOr k) (value.AllOr o)) ≡ Ok (value.AllOr o)
-      by_case None h = all_reads value.AllOr (n.number k)
+      by_case None h = part_said n (AllOr k) all_text (value.AllOr None) (inl (refl, refl))
       by_case (Some i) h =
           let both = and_parts (nat_lt i (counts k)) (not (bytes_eq (known k i) all_text))
           (pass_one (nat_lt i (counts k) && not (bytes_eq (known k i) all_text)) h) in
-          all_or_reads value.AllOr (n.number k) (known k) i (not_true (bytes_eq (known k i) all_text) both.1) (called k i both.0)
+          part_said n (AllOr k) (known k i) (value.AllOr (Some i))
+          (inr (not_all (known k i) (not_true (bytes_eq (known k i) all_text) both.1), (i, called k i both.0, refl)))
   part_from AllOrNumber v is s m f =
       subst (λ x. all_or_of value.AllOrNumber number_of (part_text known AllOrNumber x) ≡ Ok x) is (by_case (all_or_number_in v) s)
     where
       by_case : (o : Option ℕ) → pass (of_some (λ i. nat_lt i (2 ^ 64)) o) ≡ true →
           all_or_of value.AllOrNumber number_of (part_text known AllOrNumber (value.AllOrNumber o)) ≡ Ok (value.AllOrNumber o)
-      by_case None h = all_reads value.AllOrNumber number_of
+      by_case None h = part_said n AllOrNumber all_text (value.AllOrNumber None) (inl (refl, refl))
       by_case (Some i) h =
           let small = ltb-true i (2 ^ 64) (pass_one (nat_lt i (2 ^ 64)) h) in
-          all_or_reads value.AllOrNumber number_of decimal i (no_all i small) (number_back i small)
+          part_said n AllOrNumber (decimal i) (value.AllOrNumber (Some i)) (inr (not_all (decimal i) (no_all i small), (i, (small, refl), refl)))
 
   parts_from : (ps : List Place) (us vs : List PartValue) (i : ℕ) (xs ys zs : List Bool) → drop i vs ≡ us → shaped_from i ps vs ≡ us →
       pass (all_tests sound_tests ps us xs) ≡ true → pass (all_tests (named_tests counts known) ps us ys) ≡ true →
@@ -311,13 +250,6 @@ module _ (n : Naming) (known : Known) (counts : Kind → ℕ) (new : List ℕ �
   each_from k (x ∷ xs) h =
       let both = and_parts (nat_lt x (counts k)) (list_all (λ i. nat_lt i (counts k)) xs) h in rw (called k x both.0, each_from k xs both.1) refl
 
-  words_from : (xs : List ℕ) → list_all (λ x. nat_lt x (2 ^ 32)) xs ≡ true → each_of word_of (map hex_word xs) ≡ Ok xs
-  unfolding each_of two_of
-  words_from [] h = refl
-  words_from (x ∷ xs) h =
-      let both = and_parts (nat_lt x (2 ^ 32)) (list_all (λ y. nat_lt y (2 ^ 32)) xs) h in
-      rw (word_back x (ltb-true x (2 ^ 32) both.0), words_from xs both.1) refl
-
   rest_from : (r : Rest) (xs : List ℕ) → shaped_rest r xs ≡ xs → pass (sound_rest r xs) ≡ true → pass (named_rest counts r xs) ≡ true →
       read_rest n r (rest_texts known r xs) ≡ Ok xs
   unfolding read_rest rest_texts
@@ -326,8 +258,7 @@ module _ (n : Naming) (known : Known) (counts : Kind → ℕ) (new : List ℕ �
   rest_from Words xs is s m =
       let first = and_parts (nat_le 1 (length xs)) (nat_le (length xs) 256 && (list_all (λ x. nat_lt x (2 ^ 32)) xs && true)) s in
       let second = and_parts (nat_le (length xs) 256) (list_all (λ x. nat_lt x (2 ^ 32)) xs && true) first.1 in
-      let long : length (map hex_word xs) ≡ length xs = length-map xs hex_word in
-      rw (long, first.0, second.0) (words_from xs (pass_one (list_all (λ x. nat_lt x (2 ^ 32)) xs) second.1))
+      words_again n known xs first.0 second.0 (pass_one (list_all (λ x. nat_lt x (2 ^ 32)) xs) second.1)
 
   -- a line of its parts' kinds that passes is read of its own words
   pub line_from : (row : Row) (line : Line) → shaped_line row line ≡ line → is_sound_line row line ≡ true → is_named_line counts known row line ≡ true →

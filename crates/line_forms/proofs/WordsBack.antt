@@ -1,20 +1,8 @@
 -- A printed word is read as what it was printed from.
-use Rattle.std.proofs.Common.{ℕ, zero, suc, ◌≡◌, ◌∙◌, ◌++◌, ◌<◌, ◌==◌, not, nat_lt, get_or, decimal, subst, lit≤, ◌/◌, ◌%◌, ◌^◌, ◌&&◌, nat_le, Bool, true, false, List, [], ◌∷◌, length, Some, None, Ok, Err, refl, ap, arith, length-append, if◌then◌else◌, ◌≤◌}
-use Rattle.std.specs.Char.{digit_char, is_ascii_digit, digit_value}
-use Rattle.std.specs.List.{list_all}
-use Rattle.std.proofs.lemmas.List.Folds.{list_all-append}
-use Rattle.std.specs.Str.Parse.{digits_value, AllDigits}
-use Rattle.std.proofs.lemmas.Bool.{and_parts, and_from, le-leb, lt-ltb, leb-true, ltb-true}
-use Rattle.std.proofs.lemmas.Fmt.{decimal_is_IsNumeral, decimal_digit, first_decimal}
-use Rattle.std.proofs.lemmas.List.{take_all}
-use Rattle.trace_words.proofs.Digits.{hex_fits}
-use Rattle.std.proofs.lemmas.Bool.Decides.{nat_tests}
+use Rattle.line_forms.proofs.Vocabulary.{ℕ, zero, suc, ◌≡◌, ◌∙◌, ◌++◌, ◌<◌, ◌==◌, not, nat_lt, get_or, decimal, subst, lit≤, ◌/◌, ◌%◌, ◌^◌, ◌&&◌, nat_le, Bool, true, false, List, [], ◌∷◌, length, Some, None, Ok, Err, refl, ap, arith, length-append, if◌then◌else◌, ◌≤◌, digit_char, is_ascii_digit, digit_value, list_all, list_all-append, digits_value, AllDigits, and_parts, and_from, le-leb, lt-ltb, leb-true, ltb-true, decimal_is_IsNumeral, decimal_digit, first_decimal, take_all, hex_fits, nat_tests, is_number, is_hex_digit, is_data_word, data_word_of, or_form, number_of, word_of, hex_from, hex_word, without_zeros, flag_word}
 use Rattle.std.proofs.lemmas.Int.Digits.{digits_value_push}
 use Rattle.std.proofs.lemmas.Str.{digit_value-digit_char}
-use Rattle.trace_words.specs.Words.{is_number, is_hex_digit, is_data_word, data_word_of}
 use Rattle.line_forms.specs.declared.cause.Cause.TheVariants as cause
-use Rattle.line_forms.specs.Reading.{or_form, number_of, word_of}
-use Rattle.line_forms.specs.Lines.{hex_from, hex_word, without_zeros, flag_word}
 
 -- one more item that passes
 all_push : {A : Type 0} (p : A → Bool) (xs : List A) (x : A) → list_all p xs ≡ true → p x ≡ true → list_all p (xs ++ x ∷ []) ≡ true
@@ -83,7 +71,7 @@ leads (b ∷ c ∷ ds) first all =
     and_from (not (b == 48)) (list_all is_ascii_digit (b ∷ c ∷ ds)) other all
 
 -- the digits of a number write it
-decimal_spelled : (n : ℕ) → n < 2 ^ 64 → is_number (decimal n) ≡ true
+pub decimal_spelled : (n : ℕ) → n < 2 ^ 64 → is_number (decimal n) ≡ true
 unfolding is_number
 decimal_spelled zero small = rw (decimal_digit 0 (lit≤ tt)) refl
 decimal_spelled (suc n) small =
@@ -95,21 +83,6 @@ unfolding number_of
 number_back n small =
     let value : digits_value 10 (decimal n) ≡ n = (decimal_is_IsNumeral n small).1 in
     rw (decimal_spelled n small, value, lt-ltb n (2 ^ 64) small) refl
-
--- a number that is read is below 2^64
-pub number_small : (w : List ℕ) (n : ℕ) → number_of w ≡ Ok n → n < 2 ^ 64
-unfolding number_of
-number_small w n e = spelled (is_number w) e
-  where
-    small : (t : Bool) → nat_lt (digits_value 10 w) (2 ^ 64) ≡ t → (if t then Ok (digits_value 10 w) else Err cause.Number) ≡ Ok n → n < 2 ^ 64
-    small false l e = cc
-    small true l e =
-        let value : digits_value 10 w ≡ n = cc in
-        subst (λ m. m < 2 ^ 64) value (ltb-true (digits_value 10 w) (2 ^ 64) l)
-
-    spelled : (t : Bool) → (if t then (if nat_lt (digits_value 10 w) (2 ^ 64) then Ok (digits_value 10 w) else Err cause.Number) else Err cause.Form) ≡ Ok n → n < 2 ^ 64
-    spelled true e = small (nat_lt (digits_value 10 w) (2 ^ 64)) refl e
-    spelled false e = cc
 
 -- a data word is below 2^32
 pub word_small : (w : List ℕ) (n : ℕ) → word_of w ≡ Ok n → n < 2 ^ 32

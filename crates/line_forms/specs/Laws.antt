@@ -56,11 +56,15 @@ pub record IsGood (n : Naming) (known : Known) (p : Place) (v : PartValue) : Typ
   pub kind : shaped p v ≡ v
   pub reads : read_part n p (part_text known p v) ≡ Ok v
 
+-- a fact of each part and its value
+abbrev pub AllParts : (Place → PartValue → Type 0) → List Place → List PartValue → Type 0
+AllParts P [] [] = Unit {0}
+AllParts P [] (v ∷ vs) = ⊥
+AllParts P (p ∷ ps) [] = ⊥
+AllParts P (p ∷ ps) (v ∷ vs) = P p v × AllParts P ps vs
+
 abbrev pub AllGood : Naming → Known → List Place → List PartValue → Type 0
-AllGood n known [] [] = Unit {0}
-AllGood n known [] (v ∷ vs) = ⊥
-AllGood n known (p ∷ ps) [] = ⊥
-AllGood n known (p ∷ ps) (v ∷ vs) = IsGood n known p v × AllGood n known ps vs
+AllGood n known ps vs = AllParts (IsGood n known) ps vs
 
 -- a line all of whose values are read of their own words
 pub record IsGoodLine (n : Naming) (known : Known) (row : Row) (line : Line) : Type 0 where

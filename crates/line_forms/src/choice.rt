@@ -1,6 +1,7 @@
 //! Choices: the parts of lines that are one of some fixed words.
 
 ghost use Rattle.std.specs.Prelude.{◌≡◌};
+ghost use Rattle.line_forms.specs.declared.choice.Choice.TheVariants as choice;
 ghost use Rattle.line_forms.specs.Choices.{choice_text, choices_of, chosen, type_in, home_in, layout_in, class_in, shared_in, visible_in, version_in, routine_in};
 
 use dx_base::{Class, Home, ListType, Routine};
@@ -117,6 +118,37 @@ impl Choices {
     }
 }
 
+/// The word of a layout.
+fn layout_text(layout: Layout) -> &'static str
+    ensures { result.now ≡ choice_text (choice.Layout layout) }
+{
+    match layout {
+        Layout::Undefined => "UNDEFINED",
+        Layout::Common => "COMMON",
+        Layout::GenericRead => "GENERIC_READ",
+        Layout::UnorderedAccess => "UNORDERED_ACCESS",
+        Layout::ShaderResource => "SHADER_RESOURCE",
+        Layout::CopySource => "COPY_SOURCE",
+        Layout::CopyDest => "COPY_DEST",
+    }
+}
+
+/// The name of a routine.
+fn routine_text(routine: Routine) -> &'static str
+    ensures { result.now ≡ choice_text (choice.Routine routine) }
+{
+    match routine {
+        Routine::Fill => "fill",
+        Routine::Move => "move",
+        Routine::Add => "add",
+        Routine::Mul => "mul",
+        Routine::Gather => "gather",
+        Routine::Scatter => "scatter",
+        Routine::Sums => "sums",
+        Routine::Histogram => "histogram",
+    }
+}
+
 impl Choice {
     /// The word of what is chosen.
     pub fn text(self) -> &'static str
@@ -134,15 +166,7 @@ impl Choice {
                 Home::Legacy => "legacy",
                 Home::Enhanced => "enhanced",
             },
-            Choice::Layout(one) => match one {
-                Layout::Undefined => "UNDEFINED",
-                Layout::Common => "COMMON",
-                Layout::GenericRead => "GENERIC_READ",
-                Layout::UnorderedAccess => "UNORDERED_ACCESS",
-                Layout::ShaderResource => "SHADER_RESOURCE",
-                Layout::CopySource => "COPY_SOURCE",
-                Layout::CopyDest => "COPY_DEST",
-            },
+            Choice::Layout(one) => layout_text(one),
             Choice::Class(one) => match one {
                 Class::Cbv => "cbv",
                 Class::Srv => "srv",
@@ -160,16 +184,7 @@ impl Choice {
                 Version::One => "1.0",
                 Version::OneOne => "1.1",
             },
-            Choice::Routine(one) => match one {
-                Routine::Fill => "fill",
-                Routine::Move => "move",
-                Routine::Add => "add",
-                Routine::Mul => "mul",
-                Routine::Gather => "gather",
-                Routine::Scatter => "scatter",
-                Routine::Sums => "sums",
-                Routine::Histogram => "histogram",
-            },
+            Choice::Routine(one) => routine_text(one),
         }
     }
 

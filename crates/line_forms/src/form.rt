@@ -1,7 +1,7 @@
 //! Forms of lines.
 
 ghost use Rattle.std.specs.Prelude.{◌≡◌, map};
-ghost use Rattle.line_forms.specs.Finding.{may_stand, may_end, fits, form_for};
+ghost use Rattle.line_forms.specs.Finding.{may_stand, may_end, fits, form_for, first_byte_of};
 ghost use Rattle.line_forms.specs.Parts.{place_of};
 
 use crate::part::{Part, PartValue, Rest};
@@ -77,7 +77,22 @@ fn fits(parts: &[Part], rest: Rest, words: &[&[u8]]) -> bool
     }
 }
 
-/// The first of some forms that the words of a line fit. Each other form costs the comparison of its first word.
+/// The first byte of the words of a line, or 0 where they have none. A line fits only forms of which a line may begin
+/// with it.
+pub fn first_byte(words: &[&[u8]]) -> u8
+    ensures { result ≡ first_byte_of (map (λ w. w.now) words.now) }
+{
+    match words {
+        [] => 0,
+        [word, ..] => match word {
+            [] => 0,
+            [byte, ..] => *byte,
+        },
+    }
+}
+
+/// The first of some forms that the words of a line fit. Each other form costs the comparison of its first word, so
+/// they are best those alone that may begin with the words' first byte.
 #[tactic(auto, unfolding(crate::specs::Finding::form_for))]
 pub fn form_for<F: LineForm>(forms: &[F], words: &[&[u8]]) -> Option<F>
     ensures { result ≡ form_for F.shape forms.now (map (λ w. w.now) words.now) }

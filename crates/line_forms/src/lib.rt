@@ -18,7 +18,7 @@ mod words;
 pub use append::{end_line, end_with_words, put, put_hex, put_next, put_number};
 pub use cause::Cause;
 pub use choice::{Choice, Choices, Version};
-pub use form::{Line, LineForm, form_for};
+pub use form::{Line, LineForm, first_byte, form_for};
 pub use kind::Kind;
 pub use laws::{
     what_is_printed_is_read, what_is_read_is_read_again, what_is_read_is_what_the_words_say,

@@ -18,7 +18,7 @@ use Rattle.d3d_machine.specs.declared.events.Listed.{Listed}
 use Rattle.d3d_machine.specs.declared.events.Operation.{Operation}
 use Rattle.d3d_machine.specs.declared.events.Event.{Event}
 use Rattle.d3d_machine.specs.declared.events.Event.TheVariants as event
-use Rattle.d3d_machine.specs.World.{IsWorld}
+use Rattle.d3d_machine.specs.World.{HasOneQueueAtMost}
 use Rattle.d3d_machine.specs.State.{State, first_state}
 use Rattle.d3d_machine.specs.Replies.{refusal}
 use Rattle.d3d_machine.specs.Effects.{done, memory_by, memory_after, memory_after_operation}
@@ -272,9 +272,9 @@ some_queue v (Bumped q n) e = let within : q < length v.lanes = slice_get_within
 some_queue v Free e = absurd e
 
 -- a step of the device
-pub ahead_step : (w : World) (h : List Event) (v : VkState) (j : ℕ) (s : Stepped) → IsWorld w → IsRunButWords w h → IsDevice w h v →
+pub ahead_step : (w : World) (h : List Event) (v : VkState) (j : ℕ) (s : Stepped) → HasOneQueueAtMost w → IsRunButWords w h → IsDevice w h v →
     slice_get (enabled_steps v) j ≡ Some s → IsAhead w h v → are_in_order (lane_of v 0).batches ≡ true → StaysAhead w h v s
-ahead_step w h v j s world run device at is order =
+ahead_step w h v j s most run device at is order =
     let enabled : IsEnabled v s = enabled_means v j s at in
     let some : 0 < length w.queues = omega (arith, device.objects.lanes, some_queue v s enabled) in
-    step_kind w h v j s run device.valid some (omega (arith, device.objects.lanes, world.few_queues, some)) is order enabled at
+    step_kind w h v j s run device.valid some (omega (arith, device.objects.lanes, most.few_queues, some)) is order enabled at

@@ -1,7 +1,7 @@
 -- The system stays consistent when it has served a call, and when a thread wakes.
-use Rattle.std.proofs.Common.{ℕ, zero, suc, ◌≡◌, ◌+◌, ◌-◌, ◌/◌, ◌∙◌, sym, ap, subst, refl, arith, List, [], ◌∷◌, ◌++◌, length, map, drop, Some, None, Option, true, is_some, append-nil, length-take, length-drop, inl, inr}
+use Rattle.std.proofs.Common.{ℕ, zero, suc, ◌≡◌, ◌∙◌, sym, ap, subst, refl, arith, List, [], ◌∷◌, ◌++◌, length, map, drop, Some, None, Option, true, is_some, append-nil, length-take, length-drop, inl, inr}
 use Rattle.std.specs.List.{slice_get}
-use Rattle.std.specs.Prelude.{◌==◌, if◌then◌else◌}
+use Rattle.std.specs.Prelude.{if◌then◌else◌}
 use Rattle.dx_base.specs.Lists.{changed_at, range_of}
 use Rattle.dx_base.specs.declared.ids.ThreadId.{ThreadId}
 use Rattle.dx_base.specs.declared.hresult.Hresult.{Hresult}

@@ -1,5 +1,5 @@
 -- What a step of the device needs, and what it leaves.
-use Rattle.std.proofs.Common.{ℕ, zero, suc, ◌≡◌, ◌<◌, ◌≤◌, ◌∙◌, sym, ap, subst, refl, arith, List, [], ◌∷◌, ◌++◌, length, map, Some, Option, get_or, ◌⊎◌, inl, inr, slice_set, IfSome}
+use Rattle.std.proofs.Common.{ℕ, zero, suc, ◌≡◌, ◌<◌, ◌≤◌, ◌∙◌, sym, ap, subst, refl, arith, List, [], ◌∷◌, ◌++◌, length, map, Some, Option, get_or, ◌⊎◌, inl, inr, slice_set}
 use Rattle.std.proofs.lemmas.List.{length-map}
 use Rattle.std.proofs.lemmas.Option.{slice_get_within, slice_get-map}
 use Rattle.std.proofs.lemmas.Bool.Decides.{leb_tells}
@@ -23,11 +23,10 @@ use Rattle.vk_port.specs.After.{after_step}
 use Rattle.vk_port.proofs.Enabled.{enabled_means}
 use Rattle.sys_core.specs.declared.parts.Held.{Held}
 use Rattle.sys_core.specs.declared.parts.Parts.{Parts}
-use Rattle.sys_core.specs.Parts.{queued, updates_in, first_signal, signal_at, without, updated_by, HasRoomFor}
+use Rattle.sys_core.specs.Parts.{Queued, queued, updates_in, first_signal, signal_at, without, updated_by, HasRoomFor, HasRoomForEach}
 use Rattle.sys_core.specs.Consistent.{IsConsistent}
 use Rattle.sys_core.specs.Lowering.{AreNumbers}
 use Rattle.sys_core.specs.Keeps.{Keeps}
-use Rattle.sys_core.proofs.Startup.{one_queue}
 use Rattle.sys_core.proofs.Updates.{room_numbered}
 use Rattle.sys_core.proofs.Bumping.{consistent_pass, consistent_run, consistent_start, consistent_end}
 
@@ -100,67 +99,57 @@ module _ {D : Type 0} (state : D → VkState) (plan_of : D → Option DevicePlan
         | inr free ↦ absurd (cc)
       ]
 
-  -- there is the one queue where one has a batch that can end
-  one : (q n : ℕ) → (IsEnabled (state d) (Bumped q n) ⊎ (Bumped q n ≡ Free)) → length w.queues ≡ 1
-  one q n means =
-      elim means [
-        | inl enabled ↦
-            one_queue w keeps.consistent.world (omega (arith, slice_get_within (state d).lanes q enabled.lane enabled.there, keeps.consistent.device.objects.lanes))
-        | inr free ↦ absurd (cc)
-      ]
-
-  -- a bump is of the one queue
-  pub bump_queue : (q n : ℕ) → (IsEnabled (state d) (Bumped q n) ⊎ (Bumped q n ≡ Free)) → (q ≡ 0) × IsEnabled (state d) (Bumped q n)
+  -- a batch that can end is of a queue of the world
+  pub bump_queue : (q n : ℕ) → (IsEnabled (state d) (Bumped q n) ⊎ (Bumped q n ≡ Free)) → (q < length w.queues) × IsEnabled (state d) (Bumped q n)
   bump_queue q n means =
       elim means [
-        | inl enabled ↦ (omega (arith, slice_get_within (state d).lanes q enabled.lane enabled.there, keeps.consistent.device.objects.lanes, one q n (inl enabled)), enabled)
+        | inl enabled ↦ (omega (arith, slice_get_within (state d).lanes q enabled.lane enabled.there, keeps.consistent.device.objects.lanes), enabled)
         | inr free ↦ absurd (cc)
       ]
 
-  pub held_some : (q n : ℕ) → (IsEnabled (state d) (Bumped q n) ⊎ (Bumped q n ≡ Free)) → 0 < length p.held
-  held_some q n means = omega (arith, length-map p.held queued, keeps.consistent.held_are.count, one q n means)
+  pub held_some : (q n : ℕ) → (IsEnabled (state d) (Bumped q n) ⊎ (Bumped q n ≡ Free)) → q < length p.held
+  held_some q n means = omega (arith, length-map p.held queued, keeps.consistent.held_are.count, (bump_queue q n means).0)
 
   -- the end of the start-up batch
   pub keeps_start : (r : Parts) (e : D) (q n : ℕ) → Seems p r → (IsEnabled (state d) (Bumped q n) ⊎ (Bumped q n ≡ Free)) → n ≡ 0 → state e ≡ after_step (state d) (Bumped q n) → plan_of e ≡ plan_of d →
       Keeps state plan_of w h r e
   keeps_start r e q n seems means zeroth after plan =
-      let bump : (q ≡ 0) × IsEnabled (state d) (Bumped q n) = bump_queue q n means in
-      let enabled : IsEnabled (state d) (Bumped 0 0) =
-      subst (λ k. IsEnabled (state d) (Bumped 0 k)) zeroth (subst (λ i. IsEnabled (state d) (Bumped i n)) bump.0 bump.1) in
-      keeps_goes r e (after_step (state d) (Bumped 0 0)) seems
-      (consistent_start w h p.lists p.seats (map updates_in p.fences) (map queued p.held) (state d) keeps.consistent (omega (arith, one q n means)) enabled)
-      (after ∙ ap (λ i. after_step (state d) (Bumped i n)) bump.0 ∙ ap (λ k. after_step (state d) (Bumped 0 k)) zeroth) plan
+      let bump : (q < length w.queues) × IsEnabled (state d) (Bumped q n) = bump_queue q n means in
+      let enabled : IsEnabled (state d) (Bumped q 0) = subst (λ k. IsEnabled (state d) (Bumped q k)) zeroth bump.1 in
+      keeps_goes r e (after_step (state d) (Bumped q 0)) seems
+      (consistent_start w h p.lists p.seats (map updates_in p.fences) (map queued p.held) (state d) q keeps.consistent bump.0 enabled)
+      (after ∙ ap (λ k. after_step (state d) (Bumped q k)) zeroth) plan
 
   -- the end of an operation's batch
-  pub keeps_end : (r : Parts) (e : D) (q n : ℕ) (y : Held) → (IsEnabled (state d) (Bumped q n) ⊎ (Bumped q n ≡ Free)) → 0 < n → slice_get p.held 0 ≡ Some y →
+  pub keeps_end : (r : Parts) (e : D) (q n : ℕ) (y : Held) → (IsEnabled (state d) (Bumped q n) ⊎ (Bumped q n ≡ Free)) → 0 < n → slice_get p.held q ≡ Some y →
       r.lists ≡ p.lists → r.seats ≡ p.seats → r.numbers ≡ p.numbers → map updates_in r.fences ≡ updated_by (signal_at n (queued y)) (map updates_in p.fences) →
-      map queued r.held ≡ changed_at (without (signal_at n (queued y))) 0 (map queued p.held) →
+      map queued r.held ≡ changed_at (without (signal_at n (queued y))) q (map queued p.held) →
       state e ≡ after_step (state d) (Bumped q n) → plan_of e ≡ plan_of d → Keeps state plan_of w (h ++ event.Queue (record { 0 = q }) ∷ []) r e
   keeps_end r e q n y means some at lists seats numbers fences held after plan =
-      let bump : (q ≡ 0) × IsEnabled (state d) (Bumped q n) = bump_queue q n means in
-      let enabled : IsEnabled (state d) (Bumped 0 n) = subst (λ i. IsEnabled (state d) (Bumped i n)) bump.0 bump.1 in
+      let bump : (q < length w.queues) × IsEnabled (state d) (Bumped q n) = bump_queue q n means in
       let k : List Event = h ++ event.Queue (record { 0 = q }) ∷ [] in
-      let is : IsConsistent w k p.lists p.seats (updated_by (signal_at n (queued y)) (map updates_in p.fences)) (changed_at (without (signal_at n (queued y))) 0 (map queued p.held)) (after_step (state d) (Bumped 0 n)) =
-      consistent_end w h p.lists p.seats (map updates_in p.fences) (map queued p.held) (state d) (record { 0 = q }) n (queued y) keeps.consistent bump.0 (omega (arith, one q n means)) some enabled
-      (slice_get-map queued p.held 0 ∙ ap (option_map queued) at) in
+      let v : VkState = after_step (state d) (Bumped q n) in
+      let fences_now : List (List ℕ) = updated_by (signal_at n (queued y)) (map updates_in p.fences) in
+      let held_now : List Queued = changed_at (without (signal_at n (queued y))) q (map queued p.held) in
+      let is : IsConsistent w k p.lists p.seats fences_now held_now v =
+      consistent_end w h p.lists p.seats (map updates_in p.fences) (map queued p.held) (state d) (record { 0 = q }) n (queued y) keeps.consistent bump.0 some bump.1
+      (slice_get-map queued p.held q ∙ ap (option_map queued) at) in
       record {
         consistent =
-            subst (λ x. IsConsistent w k r.lists r.seats (map updates_in r.fences) (map queued r.held) x) (sym (after ∙ ap (λ i. after_step (state d) (Bumped i n)) bump.0))
-            (subst (λ x. IsConsistent w k r.lists r.seats (map updates_in r.fences) x (after_step (state d) (Bumped 0 n))) (sym held)
-            (subst (λ x. IsConsistent w k r.lists r.seats x (changed_at (without (signal_at n (queued y))) 0 (map queued p.held)) (after_step (state d) (Bumped 0 n))) (sym fences)
-            (subst (λ x. IsConsistent w k r.lists x (updated_by (signal_at n (queued y)) (map updates_in p.fences)) (changed_at (without (signal_at n (queued y))) 0 (map queued p.held)) (after_step (state d) (Bumped 0 n))) (sym seats)
-            (subst (λ x. IsConsistent w k x p.seats (updated_by (signal_at n (queued y)) (map updates_in p.fences)) (changed_at (without (signal_at n (queued y))) 0 (map queued p.held)) (after_step (state d) (Bumped 0 n))) (sym lists) is))));
+            subst (λ x. IsConsistent w k r.lists r.seats (map updates_in r.fences) (map queued r.held) x) (sym after)
+            (subst (λ x. IsConsistent w k r.lists r.seats (map updates_in r.fences) x v) (sym held)
+            (subst (λ x. IsConsistent w k r.lists r.seats x held_now v) (sym fences)
+            (subst (λ x. IsConsistent w k r.lists x fences_now held_now v) (sym seats)
+            (subst (λ x. IsConsistent w k x p.seats fences_now held_now v) (sym lists) is))));
         plan = plan ∙ keeps.plan;
         numbers = subst (AreNumbers w.resources) (sym numbers) keeps.numbers;
       }
 
   -- there is room for the signal of the operation whose batch ends
   pub room_end : (q n : ℕ) (y : Held) (fences : List (Roomy ℕ)) → (IsEnabled (state d) (Bumped q n) ⊎ (Bumped q n ≡ Free)) → y ≡ get_or p.held q y →
-      IfSome (slice_get p.held 0) (λ x. HasRoomFor (first_signal (queued x)) fences) → HasRoomFor (signal_at n (queued y)) fences
+      HasRoomForEach p.held fences → HasRoomFor (signal_at n (queued y)) fences
   room_end q n y fences means at room =
-      let bump : (q ≡ 0) × IsEnabled (state d) (Bumped q n) = bump_queue q n means in
-      let found : slice_get p.held 0 ≡ Some y = held_at state plan_of w h p d keeps 0 y (omega (arith, one q n means)) (subst (λ i. y ≡ get_or p.held i y) bump.0 at) in
-      room_numbered n (first_signal (queued y)) fences (subst (λ o. IfSome o (λ x. HasRoomFor (first_signal (queued x)) fences)) found room)
+      room_numbered n (first_signal (queued y)) fences (room.each q y (held_at state plan_of w h p d keeps q y (bump_queue q n means).0 at))
 
   -- the end of an operation's batch, as the step's parts give it
   pub keeps_end_by : (fences : List (Roomy ℕ)) (e : D) (q n : ℕ) (y z : Held) (o : Option Signalled) → (IsEnabled (state d) (Bumped q n) ⊎ (Bumped q n ≡ Free)) → (n ≡ 0 → ⊥) → y ≡ get_or p.held q y →
@@ -168,10 +157,8 @@ module _ {D : Type 0} (state : D → VkState) (plan_of : D → Option DevicePlan
       state e ≡ after_step (state d) (Bumped q n) → plan_of e ≡ plan_of d →
       Keeps state plan_of w (h ++ event.Queue (record { 0 = q }) ∷ []) (record { lists = p.lists; seats = p.seats; fences = fences; held = slice_set p.held q z; numbers = p.numbers }) e
   keeps_end_by fences e q n y z o means later at signal rest updates after plan =
-      let bump : (q ≡ 0) × IsEnabled (state d) (Bumped q n) = bump_queue q n means in
-      let first : y ≡ get_or p.held 0 y = subst (λ i. y ≡ get_or p.held i y) bump.0 at in
-      let found : slice_get p.held 0 ≡ Some y = held_at state plan_of w h p d keeps 0 y (omega (arith, one q n means)) first in
+      let found : slice_get p.held q ≡ Some y = held_at state plan_of w h p d keeps q y (bump_queue q n means).0 at in
       keeps_end (record { lists = p.lists; seats = p.seats; fences = fences; held = slice_set p.held q z; numbers = p.numbers }) e q n y means (by_cases n later) found refl refl refl
       (updates ∙ ap (λ x. updated_by x (map updates_in p.fences)) signal)
-      (ap (λ i. map queued (slice_set p.held i z)) bump.0 ∙ map_write queued (without (signal_at n (queued y))) p.held 0 y z (held_some q n means) first (rest ∙ ap (λ x. without x (queued y)) signal))
+      (map_write queued (without (signal_at n (queued y))) p.held q y z (held_some q n means) at (rest ∙ ap (λ x. without x (queued y)) signal))
       after plan

@@ -33,5 +33,6 @@ pub mod DeviceStep
 pub mod Beginning
 pub mod NthStep
 pub mod Finishing
+pub mod StepCount
 pub mod Stepping
 pub mod Refusing

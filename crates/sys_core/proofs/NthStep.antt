@@ -269,7 +269,7 @@ module _ {D : Type 0} (state : D → VkState) (plan_of : D → Option DevicePlan
         where_few (ready_at w (map updates_in p.fences) p.seats) (λ t. step.Thread t) 0 (length w.scripts),
         where_few (holds_at p.held) (λ q. step.Worker q) 0 (length w.queues),
         keeps.consistent.world.threads,
-        keeps.consistent.world.few_queues,
+        keeps.consistent.world.queues,
       )
 
   -- the step of a place, by what the searches found

@@ -1,5 +1,5 @@
 -- The parts that are those of the past: what they tell of the machine, and that each kind of step keeps them so.
-use Rattle.std.proofs.Common.{ℕ, ◌≡◌, ◌+◌, ◌-◌, ◌∙◌, sym, ap, refl, List, [], ◌∷◌, ◌++◌, length, map, Some, None, Option, Result, Ok, Err, IfOk}
+use Rattle.std.proofs.Common.{ℕ, ◌≡◌, ◌+◌, ◌∙◌, sym, ap, refl, List, [], ◌∷◌, ◌++◌, length, map, Some, None, Option, Result, Ok, Err, IfOk}
 use Rattle.std.proofs.lemmas.List.{length-map}
 use Rattle.std.proofs.lemmas.Option.{slice_get-map}
 use Rattle.std.specs.List.{slice_get}
@@ -22,7 +22,7 @@ use Rattle.d3d_machine.specs.CallEffects.{does}
 use Rattle.d3d_machine.specs.Effects.{changed, done, with_one, dropped, head_of}
 use Rattle.d3d_machine.specs.Play.{IsRunButWords, state_after}
 use Rattle.d3d_machine.specs.Fences.{operation_sets}
-use Rattle.d3d_machine.specs.Past.{calls, wakes, moved, Past, past, last_of, place_from, IsRight}
+use Rattle.d3d_machine.specs.Past.{calls, wakes, moved, past, last_of, place_from, IsRight}
 use Rattle.d3d_machine.proofs.CallEffects.{waits_done}
 use Rattle.d3d_machine.proofs.Past.{past_append, state_is, places_many}
 use Rattle.d3d_machine.proofs.PastPlaces.{pasts_are_right}

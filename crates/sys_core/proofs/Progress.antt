@@ -12,7 +12,7 @@ use Rattle.dx_base.specs.declared.steps.Step.TheVariants as step
 use Rattle.dx_base.proofs.Lists.{and_both, and_of}
 use Rattle.d3d_machine.specs.declared.world.World.{World}
 use Rattle.d3d_machine.specs.declared.events.Event.{Event}
-use Rattle.d3d_machine.specs.World.{IsWorld}
+use Rattle.d3d_machine.specs.World.{HasOneQueueAtMost}
 use Rattle.d3d_machine.specs.State.{called_of}
 use Rattle.d3d_machine.specs.Play.{IsRunButWords, state_after}
 use Rattle.d3d_machine.specs.Operations.{operations, counter}
@@ -116,8 +116,8 @@ head_is v r valid front =
     }
 
 -- its waits are reached
-head_reached : (w : World) (h : List Event) (v : VkState) (r : Running) → IsWorld w → IsDevice w h v → 0 < length w.queues → IsHead v r → reached v.timelines r.batch.waits ≡ true
-head_reached w h v r world device within head =
+head_reached : (w : World) (h : List Event) (v : VkState) (r : Running) → HasOneQueueAtMost w → IsDevice w h v → 0 < length w.queues → IsHead v r → reached v.timelines r.batch.waits ≡ true
+head_reached w h v r most device within head =
     let ts : List ℕ = v.timelines in
     let rest : List Batch = device.stands.rest in
     let begins : v.journal ≡ startup w ∷ rest = begins_of w h v device.stands within in
@@ -133,7 +133,7 @@ head_reached w h v r world device within head =
           let named : (p (startup w) ≡ true) × (list_all p rest ≡ true) =
           and_both (p (startup w)) (list_all p rest) (ap (list_all p) (sym begins) ∙ device.named) in
           let waiting : IsWaiting w r.batch =
-          waiting_member w h 0 (startup w ∷ []) rest member.0 r.batch (one_queue w world within)
+          waiting_member w h 0 (startup w ∷ []) rest member.0 r.batch (one_queue w most within)
           (subst (λ bs. AreLowered w h 0 bs rest) (opening_is w within) device.stands.lowered_rest) (and_of (p (startup w)) true named.0 refl) named.1 member.1 member.2 in
           let counter_is : counter_of v 0 ≡ counter h 0 = (device.stands.queues 0 within).counter_is in
           let finished : counter h 0 ≡ (0 + n) - 1 = device.finished 0 within in
@@ -148,9 +148,9 @@ head_reached w h v r world device within head =
     ]
 
 -- a device to which all called operations are submitted, of which one is incomplete, has a step
-pub submitted_go : (w : World) (h : List Event) (v : VkState) → IsWorld w → IsDevice w h v → 0 < length w.queues → counter h 0 < length (operations w h 0) →
+pub submitted_go : (w : World) (h : List Event) (v : VkState) → HasOneQueueAtMost w → IsDevice w h v → 0 < length w.queues → counter h 0 < length (operations w h 0) →
     length (operations w h 0) ≤ submitted_of v 0 → 0 < length (enabled_steps v)
-submitted_go w h v world device within less all =
+submitted_go w h v most device within less all =
     let rest : List Batch = device.stands.rest in
     let begins : v.journal ≡ startup w ∷ rest = begins_of w h v device.stands within in
     let lanes : 0 < length v.lanes = omega (arith, within, device.objects.lanes) in
@@ -162,26 +162,26 @@ submitted_go w h v world device within less all =
     let first : (r : Running) × (slice_get rs 0 ≡ Some r) = item_at rs 0 some in
     lane_goes v 0 (lane_of v 0) first.0 (slice_get-get_or v.lanes 0 no_lane lanes) first.1
     (all_at is_marked rs 0 first.0 (device.valid.lanes 0).marked first.1)
-    (λ _. head_reached w h v first.0 world device within (head_is v first.0 device.valid first.1))
+    (λ _. head_reached w h v first.0 most device within (head_is v first.0 device.valid first.1))
 
-first_goes : (w : World) (h : List Event) (v : VkState) (free : ℕ) → IsWorld w → IsRunButWords w h → IsDevice w h v → 0 < length w.queues → 0 < length (called_of (state_after w h).desk 0) →
+first_goes : (w : World) (h : List Event) (v : VkState) (free : ℕ) → HasOneQueueAtMost w → IsRunButWords w h → IsDevice w h v → 0 < length w.queues → 0 < length (called_of (state_after w h).desk 0) →
     0 < length (enabled_of w h v free)
-first_goes w h v free world run device within some =
+first_goes w h v free most run device within some =
     let less : counter h 0 < length (operations w h 0) =
     omega (arith, some, ap length (called_now w h run within), length-drop (counter h 0) (operations w h 0)) in
     elim (cases_lt (submitted_of v 0) (length (operations w h 0))) [
       | inl more ↦ worker_goes w h v free 0 within more
-      | inr all ↦ device_goes w h v free (submitted_go w h v world device within less all)
+      | inr all ↦ device_goes w h v free (submitted_go w h v most device within less all)
     ]
 
 -- while an operation is called and incomplete, a step is enabled
-pub queue_goes : (w : World) (h : List Event) (v : VkState) (free q : ℕ) → IsWorld w → IsRunButWords w h → IsDevice w h v → q < length w.queues →
+pub queue_goes : (w : World) (h : List Event) (v : VkState) (free q : ℕ) → HasOneQueueAtMost w → IsRunButWords w h → IsDevice w h v → q < length w.queues →
     0 < length (called_of (state_after w h).desk q) → 0 < length (enabled_of w h v free)
-queue_goes w h v free q world run device within some =
+queue_goes w h v free q most run device within some =
     at_first (λ p. 0 < length (called_of (state_after w h).desk p) → 0 < length (enabled_of w h v free)) q (length w.queues) within
-    (omega (arith, within, world.few_queues)) (first_goes w h v free world run device (omega (arith, within))) some
+    (omega (arith, within, most.few_queues)) (first_goes w h v free most run device (omega (arith, within))) some
 
 -- where the Direct3D machine can go on, the system has a step
-pub machine_goes : (w : World) (h : List Event) (v : VkState) (free : ℕ) → IsWorld w → IsRunButWords w h → IsDevice w h v → CanGoOn w h → 0 < length (enabled_of w h v free)
-machine_goes w h v free world run device (inl ready) = thread_goes w h v free ready.0 ready.1 ready.2
-machine_goes w h v free world run device (inr called) = queue_goes w h v free called.0 world run device called.1 called.2
+pub machine_goes : (w : World) (h : List Event) (v : VkState) (free : ℕ) → HasOneQueueAtMost w → IsRunButWords w h → IsDevice w h v → CanGoOn w h → 0 < length (enabled_of w h v free)
+machine_goes w h v free most run device (inl ready) = thread_goes w h v free ready.0 ready.1 ready.2
+machine_goes w h v free most run device (inr called) = queue_goes w h v free called.0 most run device called.1 called.2

@@ -4,7 +4,7 @@ use Rattle.std.proofs.lemmas.Bool.{lt-ltb, le-ltb}
 use Rattle.std.specs.Prelude.{if◌then◌else◌}
 use Rattle.d3d_machine.specs.declared.world.World.{World}
 use Rattle.d3d_machine.specs.declared.events.Event.{Event}
-use Rattle.d3d_machine.specs.World.{IsWorld}
+use Rattle.d3d_machine.specs.World.{HasOneQueueAtMost}
 use Rattle.vk_types.specs.declared.batches.Batch.{Batch}
 use Rattle.vk_port.specs.VkState.{VkState}
 use Rattle.sys_core.specs.Lowering.{startup, opening_batches}
@@ -26,5 +26,5 @@ pub begins_of : (w : World) (h : List Event) (v : VkState) (s : Stands w h v) �
 begins_of w h v s some = begins_by w v.journal s.rest some s.begins
 
 -- where there is a queue, it is the one queue
-pub one_queue : (w : World) → IsWorld w → 0 < length w.queues → length w.queues ≡ 1
-one_queue w world some = omega (arith, some, world.few_queues)
+pub one_queue : (w : World) → HasOneQueueAtMost w → 0 < length w.queues → length w.queues ≡ 1
+one_queue w most some = omega (arith, some, most.few_queues)

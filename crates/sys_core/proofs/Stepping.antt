@@ -1,9 +1,8 @@
 -- Each step of the system leaves less work or fewer free steps, and what the history and the device say of each other.
-use Rattle.std.proofs.Common.{ℕ, ◌≡◌, ◌<◌, ◌≤◌, ◌+◌, ◌∙◌, sym, ap, subst, refl, arith, List, [], ◌∷◌, ◌++◌, length, map, Some, None, Option, true, append-nil, inl, inr, Result, Ok, Err, OnOk, OnErr}
+use Rattle.std.proofs.Common.{ℕ, ◌≡◌, ◌<◌, ◌≤◌, ◌+◌, ◌∙◌, sym, ap, subst, refl, arith, List, [], ◌∷◌, ◌++◌, length, map, Some, None, Option, Bool, true, append-nil, inl, inr, Result, Ok, Err, OnOk, OnErr}
 use Rattle.std.proofs.lemmas.Bool.{ltb-true}
-use Rattle.std.proofs.lemmas.Bool.Decides.{leb_tells}
 use Rattle.std.specs.List.{slice_get}
-use Rattle.std.specs.Prelude.{⊤, nat_lt}
+use Rattle.std.specs.Prelude.{⊤, nat_lt, if◌then◌else◌}
 use Rattle.dx_base.specs.declared.steps.Step.{Step}
 use Rattle.dx_base.specs.declared.steps.Step.TheVariants as step
 use Rattle.dx_base.specs.declared.ids.ThreadId.{ThreadId}
@@ -22,26 +21,29 @@ use Rattle.vk_port.specs.declared.steps.Stepped.{Stepped}
 use Rattle.vk_port.specs.declared.steps.Stepped.TheVariants as stepped
 use Rattle.vk_port.specs.After.{after_step, after_submit}
 use Rattle.vk_port.specs.Enabled.{enabled_steps}
+use Rattle.vk_port.specs.Left.{steps_left}
 use Rattle.vk_port.specs.VkState.{VkState}
 use Rattle.vk_port.proofs.Lists.{item_at}
 use Rattle.sys_core.specs.declared.parts.Parts.{Parts}
 use Rattle.sys_core.specs.declared.faults.SysFault.{SysFault}
-use Rattle.sys_core.specs.Goes.{IsStep, WasTaken}
+use Rattle.sys_core.specs.Goes.{IsStep, WasTaken, tally}
 use Rattle.sys_core.specs.Lowering.{lowered}
 use Rattle.sys_core.specs.Parts.{updates_in, reply_by, device_by}
 use Rattle.sys_core.specs.Steps.{is_ready_thread, is_ready_worker, thread_event, place_event, call_event, seen_state, after_event, submitted_of, submitted_batches, next_batch, after_submits, step_events, IsDeviceStep}
+use Rattle.sys_core.specs.StepCount.{rest_used}
 use Rattle.sys_core.specs.Work.{work}
 use Rattle.sys_core.specs.Ahead.{IsWhole}
 use Rattle.sys_core.specs.Keeps.{Keeps}
 use Rattle.sys_core.proofs.PastParts.{lists_now, values_are}
 use Rattle.sys_core.proofs.Threading.{reply_seen, device_awake, device_seen}
 use Rattle.sys_core.proofs.Whole.{whole_call, whole_awake, whole_submit, whole_step}
+use Rattle.sys_core.proofs.StepCount.{count_call, count_awake, thread_counts, submit_counts, device_counts, among}
 use Rattle.sys_core.proofs.Work.{call_falls, awake_falls, submit_falls, device_falls}
 
 -- a step that went: the work with the free steps left falls, and what the history and the device say of each other stays
 pub record Goes (w : World) (h k : List Event) (v u : VkState) (before after : ℕ) : Type 0 where
   pub falls : work w k u + after < work w h v + before
-  pub rest : after ≤ before
+  pub counts : (tally (record { history = k; device = u }) + steps_left v) + before ≡ (tally (record { history = h; device = v }) + steps_left u) + (after + 1)
   pub whole : IsWhole w h v → IsWhole w k u
 
 -- the same, of what the history and the device are
@@ -58,7 +60,7 @@ module _ {D : Type 0} (state : D → VkState) (plan_of : D → Option DevicePlan
       ap is_marked waits ∙ sym (ap (λ (o : Option Waiting). elim o [ None ↦ nat_lt (place_of (state_after w h).desk t.0).made (length (script_of w t.0)) | Some y ↦ y.marked ]) waits) ∙ ready in
       record {
         falls = omega (arith, awake_falls w h (state d) t x waits, same);
-        rest = omega (arith, same);
+        counts = thread_counts h (h ++ event.Awake t ∷ []) (state d) (state d) a b (count_awake h t) refl refl same;
         whole = whole_awake w h (state d) t keeps.consistent.world keeps.consistent.run keeps.consistent.device may;
       }
 
@@ -67,7 +69,8 @@ module _ {D : Type 0} (state : D → VkState) (plan_of : D → Option DevicePlan
       (a b : ℕ) → b ≡ a → Goes w h (h ++ event.Call t c (reply_by w p.lists (map updates_in p.fences) (state d) c) ∷ []) (state d) (device_by w p.lists (state d) c) a b
   call_went t c waits next a b same = record {
     falls = omega (arith, call_falls w h (state d) (device_by w p.lists (state d) c) t c (reply_by w p.lists (map updates_in p.fences) (state d) c) next refl refl, same);
-    rest = omega (arith, same);
+    counts = thread_counts h (h ++ event.Call t c (reply_by w p.lists (map updates_in p.fences) (state d) c) ∷ []) (state d) (device_by w p.lists (state d) c) a b
+        (count_call h t c (reply_by w p.lists (map updates_in p.fences) (state d) c)) refl refl same;
     whole = whole_call w h p.lists (map updates_in p.fences) (state d) t c keeps.consistent.world keeps.consistent.run keeps.consistent.device (lists_now w h p.lists p.seats (map updates_in p.fences) keeps.consistent.past_is)
         (values_are w h p.lists p.seats (map updates_in p.fences) keeps.consistent.past_is keeps.consistent.world keeps.consistent.run) waits next;
   }
@@ -119,28 +122,30 @@ module _ {D : Type 0} (state : D → VkState) (plan_of : D → Option DevicePlan
       goes_of w h h h v u (after_submit v batch) a b refl (device ∙ ap (λ x. after_submits v (next_batch w h v q x)) found.1)
       (record {
         falls = omega (arith, submit_falls w h v q o batch within found.1 refl refl refl keeps.consistent.device.valid lane, same);
-        rest = omega (arith, same);
-        whole = whole_submit w h v q batch o keeps.consistent.world keeps.consistent.device within found.1 refl refl refl;
+        counts = submit_counts h v batch a b keeps.consistent.device.valid lane same;
+        whole = whole_submit w h v q batch o keeps.consistent.device within found.1 refl refl refl;
       })
 
   -- a step of the device
   pub device_went : (j : ℕ) (k : List Event) (u : VkState) → IsDeviceStep h k (state d) u j → IsRunButWords w k →
-      (a b : ℕ) → b ≤ a → (length (enabled_steps (state d)) ≤ j → a ≡ b + 1) → Goes w h k (state d) u a b
-  device_went j k u is run a b less free =
+      (a b : ℕ) → a ≡ b + rest_used (state d) (step.Device j) → Goes w h k (state d) u a b
+  device_went j k u is run a b used =
       let v : VkState = state d in
       let s : Stepped = is.step in
-      elim (leb_tells (length (enabled_steps v)) j) [
-        | inl past ↦
+      elim (among j (length (enabled_steps v))) [
+        | inr past ↦
             let none : s ≡ stepped.Free = is.free past.1 in
+            let one : a ≡ b + 1 = used ∙ ap (λ (x : Bool). b + (if x then 0 else 1)) past.0 in
             goes_of w h k h v u v a b (is.history ∙ ap (λ x. h ++ step_events x) none ∙ append-nil h) (is.state ∙ ap (after_step v) none)
-            (record { falls = omega (arith, free past.1); rest = less; whole = λ x. x })
-        | inr within ↦
+            (record { falls = omega (arith, one); counts = omega (arith, one); whole = λ x. x })
+        | inl within ↦
             let at : slice_get (enabled_steps v) j ≡ Some s = is.named within.1 in
+            let same : a ≡ b = used ∙ ap (λ (x : Bool). b + (if x then 0 else 1)) within.0 ∙ (let e : b + 0 ≡ b = omega arith in e) in
             goes_of w h k (h ++ step_events s) v u (after_step v s) a b is.history is.state
             (record {
-              falls = omega (arith, device_falls w h v j s keeps.consistent.device.valid at, less);
-              rest = less;
-              whole = whole_step w h v j s keeps.consistent.world keeps.consistent.run keeps.consistent.device at (subst (IsRunButWords w) is.history run);
+              falls = omega (arith, device_falls w h v j s keeps.consistent.device.valid at, same);
+              counts = device_counts h v j s a b keeps.consistent.device.valid at same;
+              whole = whole_step w h v j s keeps.consistent.run keeps.consistent.device at (subst (IsRunButWords w) is.history run);
             })
       ]
 
@@ -165,9 +170,9 @@ module _ {D : Type 0} (state : D → VkState) (plan_of : D → Option DevicePlan
 
   -- a device's step that went
   pub device_goes : (j : ℕ) (k : List Event) (v : VkState) (res : Result ⊤ SysFault) → OnOk res (IsDeviceStep h k (state d) v j) → IsRunButWords w k →
-      (a b : ℕ) → b ≤ a → OnOk res (length (enabled_steps (state d)) ≤ j → a ≡ b + 1) → OnOk res (Goes w h k (state d) v a b)
-  device_goes j k v (Ok x) step run a b less free = device_went j k v step run a b less free
-  device_goes j k v (Err e) step run a b less free = tt
+      (a b : ℕ) → OnOk res (a ≡ b + rest_used (state d) (step.Device j)) → OnOk res (Goes w h k (state d) v a b)
+  device_goes j k v (Ok x) is run a b used = device_went j k v is run a b used
+  device_goes j k v (Err e) is run a b used = tt
 
   pub whole_goes : (k : List Event) (v : VkState) (a b : ℕ) (res : Result ⊤ SysFault) → OnOk res (Goes w h k (state d) v a b) → OnOk res (IsWhole w h (state d) → IsWhole w k v)
   whole_goes k v a b (Ok x) goes = goes.whole
@@ -175,10 +180,16 @@ module _ {D : Type 0} (state : D → VkState) (plan_of : D → Option DevicePlan
 
   -- a step that was taken
   pub taken : (rest_of : D → ℕ) (s : Step) (k : List Event) (e : D) (res : Result ⊤ SysFault) →
-      OnOk res (IsStep w (record { history = h; device = state d }) s (record { history = k; device = state e })) → OnOk res (Goes w h k (state d) (state e) (rest_of d) (rest_of e)) →
+      OnOk res (IsStep w (record { history = h; device = state d }) s (record { history = k; device = state e })) → OnOk res (rest_of d ≡ rest_of e + rest_used (state d) s) →
+      OnOk res (Goes w h k (state d) (state e) (rest_of d) (rest_of e)) →
       OnOk res (WasTaken state rest_of s (record { world = w; history = h; device = d }) (record { world = w; history = k; device = e }))
-  taken rest_of s k e (Ok x) step goes = record { world = refl; goes = step; rest = goes.rest; falls = goes.falls }
-  taken rest_of s k e (Err x) step goes = tt
+  taken rest_of s k e (Ok x) is used goes = record { world = refl; goes = is; rest = used; counts = goes.counts; falls = goes.falls }
+  taken rest_of s k e (Err x) is used goes = tt
+
+  -- a step that is not the device's takes no free step
+  pub none_used : (s : Step) (res : Result ⊤ SysFault) (a b : ℕ) → b ≡ a → rest_used (state d) s ≡ 0 → OnOk res (a ≡ b + rest_used (state d) s)
+  none_used s (Ok x) a b same none = omega (arith, same, none)
+  none_used s (Err x) a b same none = tt
 
   pub is_thread_step : (t : ℕ) (k : List Event) (e : D) (res : Result ⊤ SysFault) → OnOk res (k ≡ h ++ thread_event w h (state d) t ∷ []) →
       OnOk res (state e ≡ after_event w h (state d) (thread_event w h (state d) t)) →

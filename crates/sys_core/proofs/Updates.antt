@@ -2,15 +2,18 @@
 use Rattle.std.proofs.Common.{ℕ, zero, suc, ◌≡◌, refl, ap, arith, List, [], ◌∷◌, map, Some, None}
 use Rattle.std.specs.List.{slice_get}
 use Rattle.dx_base.specs.Roomy.{Roomy}
-use Rattle.std.proofs.Common.{◌<◌, ◌≤◌, ◌++◌, sym, subst, length, set, get_or, Option, Bool, true, false}
-use Rattle.std.proofs.lemmas.List.{length-map}
+use Rattle.std.proofs.Common.{◌<◌, ◌≤◌, ◌+◌, ◌++◌, ◌∙◌, sym, subst, length, take, set, get_or, Option, Bool, true, false, inl, inr}
+use Rattle.std.proofs.lemmas.Bool.{cases_lt}
+use Rattle.vk_port.proofs.Lists.{get_of_take}
+use Rattle.std.proofs.lemmas.List.{length-map, length-take}
 use Rattle.std.proofs.lemmas.Option.{slice_get_within, slice_get_read}
 use Rattle.std.specs.Prelude.{◌==◌, if◌then◌else◌}
 use Rattle.dx_base.specs.Lists.{changed_at}
 use Rattle.dx_base.proofs.Lists.{changed_past}
 use Rattle.sys_core.specs.declared.parts.Signalled.{Signalled}
 use Rattle.d3d_machine.specs.Past.{updates_at}
-use Rattle.sys_core.specs.Parts.{updates_in, with_number, HasRoomAt, HasRoomFor}
+use Rattle.sys_core.specs.declared.parts.Held.{Held}
+use Rattle.sys_core.specs.Parts.{queued, updates_in, first_signal, with_number, HasRoomAt, HasRoomFor, HasRoomForEach, KeepsRoom}
 
 pub updates_of_none : (fences : List (Roomy ℕ)) (f : ℕ) → slice_get fences f ≡ None → updates_at (map updates_in fences) f ≡ []
 updates_of_none [] f is = refl
@@ -30,6 +33,21 @@ set_room (x ∷ xs) (suc f) y r some is = set_room xs f y r some is
 -- room that was made in a fence
 pub room_made : (fences : List (Roomy ℕ)) (f : ℕ) (y : Roomy ℕ) → 1 ≤ y.spare → HasRoomAt (set fences f y) f
 room_made fences f y some = record { room = λ r is. set_room fences f y r some is }
+
+-- and the room of all fences stays
+set_keeps : (fences : List (Roomy ℕ)) (f : ℕ) (y : Roomy ℕ) (i : ℕ) (r : Roomy ℕ) → 1 ≤ y.spare → ((x : Roomy ℕ) → slice_get fences i ≡ Some x → 1 ≤ x.spare) →
+    slice_get (set fences f y) i ≡ Some r → 1 ≤ r.spare
+set_keeps [] f y i r some had is = absurd (cc)
+set_keeps (x ∷ xs) zero y zero r some had is = let e : y ≡ r = grind arith in subst (λ (z : Roomy ℕ). 1 ≤ z.spare) e some
+set_keeps (x ∷ xs) zero y (suc i) r some had is = had r is
+set_keeps (x ∷ xs) (suc f) y zero r some had is = had r is
+set_keeps (x ∷ xs) (suc f) y (suc i) r some had is = set_keeps xs f y i r some had is
+
+pub room_kept : (fences : List (Roomy ℕ)) (f : ℕ) (y : Roomy ℕ) → 1 ≤ y.spare → KeepsRoom fences (set fences f y)
+room_kept fences f y some = record { each = λ i had. record { room = λ r is. set_keeps fences f y i r some had.room is } }
+
+pub room_same : (fences : List (Roomy ℕ)) → KeepsRoom fences fences
+room_same fences = record { each = λ i had. had }
 
 -- a fence that is not there
 pub room_past : (fences : List (Roomy ℕ)) (f : ℕ) → length fences ≤ f → HasRoomAt fences f
@@ -51,3 +69,28 @@ room_numbered n (Some s) fences room = by_test (s.number == n)
     by_test : (b : Bool) → HasRoomFor (if b then Some s else None) fences
     by_test true = room
     by_test false = tt
+
+-- room for a signal stays
+kept_for : (o : Option Signalled) (old new : List (Roomy ℕ)) → KeepsRoom old new → HasRoomFor o old → HasRoomFor o new
+kept_for None old new keeps room = tt
+kept_for (Some s) old new keeps room = keeps.each s.fence.0 room
+
+-- no queue needs room
+pub room_none : (fences : List (Roomy ℕ)) → HasRoomForEach [] fences
+room_none fences = record { each = λ q x is. absurd (cc) }
+
+-- one queue more has its room
+pub room_more : (held : List Held) (old new : List (Roomy ℕ)) (i : ℕ) (y : Held) → slice_get held i ≡ Some y → HasRoomForEach (take i held) old → KeepsRoom old new →
+    HasRoomFor (first_signal (queued y)) new → HasRoomForEach (take (i + 1) held) new
+room_more held old new i y at before keeps room = record {
+  each = λ q x is.
+      let less : q < i + 1 = omega (arith, slice_get_within (take (i + 1) held) q x is, length-take (i + 1) held) in
+      let there : slice_get held q ≡ Some x = sym (get_of_take (i + 1) held q less) ∙ is in
+      elim (cases_lt q i) [
+        | inl earlier ↦ kept_for (first_signal (queued x)) old new keeps (before.each q x (get_of_take i held q earlier ∙ there))
+        | inr past ↦
+            let same : i ≡ q = omega (arith, past, less) in
+            let one : y ≡ x = let e : Some y ≡ Some x = sym at ∙ ap (slice_get held) same ∙ there in grind arith in
+            subst (λ (z : Held). HasRoomFor (first_signal (queued z)) new) one room
+      ];
+}

@@ -14,7 +14,7 @@ use Rattle.d3d_machine.specs.declared.events.Listed.{Listed}
 use Rattle.d3d_machine.specs.declared.events.Operation.{Operation}
 use Rattle.d3d_machine.specs.declared.events.Event.{Event}
 use Rattle.d3d_machine.specs.declared.events.Event.TheVariants as event
-use Rattle.d3d_machine.specs.World.{IsWorld}
+use Rattle.d3d_machine.specs.World.{IsWorld, HasOneQueueAtMost}
 use Rattle.d3d_machine.specs.State.{Desk, State, first_state, place_of, next_call, called_of}
 use Rattle.d3d_machine.specs.Replies.{refusal_by, refusal, reply_or, good_reply, reply_of}
 use Rattle.d3d_machine.specs.Effects.{after, after_all, done, memory_by}
@@ -76,6 +76,7 @@ quiet_last w h e are = quiet_from_last w (first_state w) h e are
 -- a history was calm before its last event
 pub calm_front : (w : World) (h : List Event) (e : Event) → IsCalm w (h ++ e ∷ []) → IsCalm w h
 calm_front w h e calm = record {
+  world = calm.world;
   quiet = quiet_front w h e calm.quiet;
   single = λ q.
       all_front is_single (operations w h q) (called_by w (state_after w h).desk q e)
@@ -91,11 +92,11 @@ called_past d q past = ap (λ (o : Option (List Operation)). elim o [ None ↦ [
     none_past (os ∷ called) (suc q) past = none_past called q (omega (arith, past))
 
 -- where as many operations completed as were called, no called operation is incomplete
-pub quiet_when : (w : World) (h : List Event) → IsWorld w → IsRunButWords w h → length (operations w h 0) ≤ counter h 0 → IsQuiet (state_after w h)
-quiet_when w h world run all = record {
+pub quiet_when : (w : World) (h : List Event) → HasOneQueueAtMost w → IsRunButWords w h → length (operations w h 0) ≤ counter h 0 → IsQuiet (state_after w h)
+quiet_when w h most run all = record {
   none_called = λ q. elim (cases_lt q (length w.queues)) [
     | inl within ↦
-        let one : length w.queues ≡ 1 = omega (arith, within, world.few_queues) in
+        let one : length w.queues ≡ 1 = omega (arith, within, most.few_queues) in
         at_first (λ p. called_of (state_after w h).desk p ≡ []) q (length w.queues) within one
         (called_now w h run (omega (arith, one)) ∙ drop_past (counter h 0) (operations w h 0) all)
     | inr past ↦ called_past (state_after w h).desk q (omega (arith, (run_has_shape w h).desk.called, past))
@@ -191,17 +192,17 @@ whole_awake w h v t world run device may is =
     }
 
 -- the submission of the next operation of a queue
-pub whole_submit : (w : World) (h : List Event) (v : VkState) (q : ℕ) (b : Batch) (o : Operation) → IsWorld w → IsDevice w h v → q < length w.queues →
+pub whole_submit : (w : World) (h : List Event) (v : VkState) (q : ℕ) (b : Batch) (o : Operation) → IsDevice w h v → q < length w.queues →
     slice_get (operations w h q) (submitted_of v q) ≡ Some o → b.queue ≡ q → b.number ≡ submitted_of v q + 1 → b.commands ≡ lowered_commands w o →
     IsWhole w h v → IsWhole w h (after_submit v b)
-whole_submit w h v q b o world device within next queue number cs is = record {
+whole_submit w h v q b o device within next queue number cs is = record {
   run = is.run;
   words = λ calm.
       at_first (λ p. slice_get (operations w h p) (submitted_of v p) ≡ Some o → b.queue ≡ p → b.number ≡ submitted_of v p + 1 → IsAhead w h (after_submit v b)) q (length w.queues) within
-      (omega (arith, within, world.few_queues))
+      (omega (arith, within, calm.world.queues.few_queues))
       (λ next queue number. ahead_submit w h v b o device.objects (omega (arith, device.objects.lanes, within)) next queue number cs (is.words calm)) next queue number;
   in_order = λ calm.
-      let zeroth : q ≡ 0 = omega (arith, within, world.few_queues) in
+      let zeroth : q ≡ 0 = omega (arith, within, calm.world.queues.few_queues) in
       let single : is_single o ≡ true = all_at is_single (operations w h q) (submitted_of v q) o (calm.single q) next in
       let lanes : 0 < length v.lanes = omega (arith, device.objects.lanes, within) in
       order_submit v b lanes (queue ∙ zeroth) (ap is_short cs ∙ lowered_is_short w o single) (is.in_order calm);
@@ -227,12 +228,12 @@ step_goes_on w h (Bumped q n) now = by_number (n == 0) now
         (λ calm. calm_front w h e calm, λ run. plays_append SameReply w (first_state w) h e run (plays_last SameButWords w (first_state w) h e now))
 
 -- a step of the device
-pub whole_step : (w : World) (h : List Event) (v : VkState) (j : ℕ) (s : Stepped) → IsWorld w → IsRunButWords w h → IsDevice w h v →
+pub whole_step : (w : World) (h : List Event) (v : VkState) (j : ℕ) (s : Stepped) → IsRunButWords w h → IsDevice w h v →
     slice_get (enabled_steps v) j ≡ Some s → IsRunButWords w (h ++ step_events s) → IsWhole w h v → IsWhole w (h ++ step_events s) (after_step v s)
-whole_step w h v j s world run device at now is =
+whole_step w h v j s run device at now is =
     let goes : (IsCalm w (h ++ step_events s) → IsCalm w h) × (IsRun w h → IsRun w (h ++ step_events s)) = step_goes_on w h s now in
     let stays : IsCalm w (h ++ step_events s) → StaysAhead w h v s =
-    λ calm. ahead_step w h v j s world run device at (is.words (goes.0 calm)) (is.in_order (goes.0 calm)) in
+    λ calm. ahead_step w h v j s calm.world.queues run device at (is.words (goes.0 calm)) (is.in_order (goes.0 calm)) in
     record {
       run = λ calm. goes.1 (is.run (goes.0 calm));
       words = λ calm. (stays calm).words;

@@ -1,5 +1,5 @@
 -- Every step of the system but a free one leaves less work.
-use Rattle.std.proofs.Common.{ℕ, zero, suc, ◌≡◌, ◌≢◌, ◌<◌, ◌≤◌, ◌+◌, ◌-◌, ◌*◌, ◌∙◌, sym, ap, subst, refl, arith, List, [], ◌∷◌, ◌++◌, length, drop, map, Some, None, Option, Bool, true, false, append-nil, length-append, inl, inr, cond, lit≤}
+use Rattle.std.proofs.Common.{ℕ, zero, suc, ◌≡◌, ◌≢◌, ◌<◌, ◌≤◌, ◌+◌, ◌-◌, ◌∙◌, sym, ap, subst, refl, arith, List, [], ◌∷◌, ◌++◌, length, drop, map, Some, None, Option, Bool, true, false, append-nil, length-append, inl, inr, cond, lit≤}
 use Rattle.std.proofs.lemmas.Bool.{cases_eq}
 use Rattle.std.proofs.lemmas.List.{length-map}
 use Rattle.std.proofs.lemmas.Bool.Decides.{eqb_tells}
@@ -343,4 +343,4 @@ step_falls w h v stepped.Free fewer = silent_falls w h v v refl fewer
 -- a step of the device leaves less work
 pub device_falls : (w : World) (h : List Event) (v : VkState) (k : ℕ) (s : Stepped) → IsValid v → slice_get (enabled_steps v) k ≡ Some s →
     work w (h ++ step_events s) (after_step v s) < work w h v
-device_falls w h v k s valid is = step_falls w h v s (falls v valid k s is)
+device_falls w h v k s valid is = step_falls w h v s (omega (arith, falls v valid k s is))

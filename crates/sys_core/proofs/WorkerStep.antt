@@ -11,6 +11,7 @@ use Rattle.dx_base.proofs.Lists.{map_write}
 use Rattle.d3d_machine.specs.declared.world.World.{World}
 use Rattle.d3d_machine.specs.declared.events.Operation.{Operation}
 use Rattle.d3d_machine.specs.declared.events.Event.{Event}
+use Rattle.d3d_machine.specs.World.{HasOneQueueAtMost}
 use Rattle.d3d_machine.specs.State.{State, first_state}
 use Rattle.d3d_machine.specs.Effects.{after}
 use Rattle.dx_base.specs.Effects.{At}
@@ -98,27 +99,27 @@ module _ {D : Type 0} (state : D → VkState) (plan_of : D → Option DevicePlan
       (ap (fits_plan (plan_of_world w)) is ∙ batch_fits w q (y.submitted + 1) y.last_signal o within next.good)
 
   -- the batch that was submitted is the lowered one
-  pub batch_next : (q : ℕ) (y : Held) (o : Operation) (b : Batch) → q < length w.queues → IsNext w h (state d) q y o → b ≡ batch_by w q (y.submitted + 1) y.last_signal o →
+  pub batch_next : HasOneQueueAtMost w → (q : ℕ) (y : Held) (o : Operation) (b : Batch) → q < length w.queues → IsNext w h (state d) q y o → b ≡ batch_by w q (y.submitted + 1) y.last_signal o →
       b ≡ lowered w h (state d).journal q (submitted_of (state d) q + 1) o
-  batch_next q y o b within next is = is ∙ sym (lowered_is w h (state d) q (queued y) o keeps.consistent.world keeps.consistent.device next.held within)
+  batch_next most q y o b within next is = is ∙ sym (lowered_is w h (state d) q (queued y) o most keeps.consistent.device next.held within)
 
-  pub state_next : (q : ℕ) (y : Held) (o : Operation) (b : Batch) (u : VkState) → q < length w.queues → IsNext w h (state d) q y o → b ≡ batch_by w q (y.submitted + 1) y.last_signal o →
+  pub state_next : HasOneQueueAtMost w → (q : ℕ) (y : Held) (o : Operation) (b : Batch) (u : VkState) → q < length w.queues → IsNext w h (state d) q y o → b ≡ batch_by w q (y.submitted + 1) y.last_signal o →
       u ≡ after_submit (state d) b → u ≡ after_submits (state d) (submitted_batches w h (state d) q)
-  state_next q y o b u within next is after =
-      after ∙ ap (after_submit (state d)) (batch_next q y o b within next is)
+  state_next most q y o b u within next is after =
+      after ∙ ap (after_submit (state d)) (batch_next most q y o b within next is)
       ∙ ap (λ x. after_submits (state d) (next_batch w h (state d) q x)) (sym next.called)
 
-  pub keeps_next : (q : ℕ) (y z : Held) (o : Operation) (b : Batch) (e : D) → q < length w.queues → slice_get p.held q ≡ Some y → y ≡ get_or p.held q y → IsNext w h (state d) q y o →
+  pub keeps_next : HasOneQueueAtMost w → (q : ℕ) (y z : Held) (o : Operation) (b : Batch) (e : D) → q < length w.queues → slice_get p.held q ≡ Some y → y ≡ get_or p.held q y → IsNext w h (state d) q y o →
       b ≡ batch_by w q (y.submitted + 1) y.last_signal o → state e ≡ after_submit (state d) b → plan_of e ≡ plan_of d → queued z ≡ submitted_one o (queued y) →
       Keeps state plan_of w h (record p { held = set p.held q z }) e
-  keeps_next q y z o b e within at lent next is after plan submitted =
+  keeps_next most q y z o b e within at lent next is after plan submitted =
       let at_queued : slice_get (map queued p.held) q ≡ Some (queued y) = slice_get-map queued p.held q ∙ ap (option_map queued) at in
       let held : map queued (set p.held q z) ≡ changed_at (submitted_one o) q (map queued p.held) =
       map_write queued (submitted_one o) p.held q y z (slice_get_within p.held q y at) lent submitted in
       record {
         consistent =
             subst (λ v. IsConsistent w h p.lists p.seats (map updates_in p.fences) (map queued (set p.held q z)) v)
-            (sym (after ∙ ap (after_submit (state d)) (batch_next q y o b within next is)))
+            (sym (after ∙ ap (after_submit (state d)) (batch_next most q y o b within next is)))
             (subst (λ x. IsConsistent w h p.lists p.seats (map updates_in p.fences) x (after_submit (state d) (lowered w h (state d).journal q (submitted_of (state d) q + 1) o))) (sym held)
             (consistent_submit w h p.lists p.seats (map updates_in p.fences) (map queued p.held) (state d) q (queued y) o keeps.consistent at_queued next.head));
         plan = plan ∙ keeps.plan;

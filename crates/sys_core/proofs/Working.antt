@@ -12,7 +12,7 @@ use Rattle.d3d_machine.specs.declared.events.Listed.{Listed}
 use Rattle.d3d_machine.specs.declared.events.Operation.{Operation}
 use Rattle.d3d_machine.specs.declared.events.Operation.TheVariants.{Execute, Signal}
 use Rattle.d3d_machine.specs.declared.events.Event.{Event}
-use Rattle.d3d_machine.specs.World.{IsWorld}
+use Rattle.d3d_machine.specs.World.{HasOneQueueAtMost}
 use Rattle.d3d_machine.specs.Operations.{operations, counter}
 use Rattle.vk_types.specs.declared.batches.Batch.{Batch}
 use Rattle.vk_port.specs.declared.lanes.Lane.{Lane}
@@ -34,8 +34,8 @@ use Rattle.sys_core.proofs.Startup.{begins_of}
 use Rattle.sys_core.proofs.Calling.{mapped_some}
 
 -- the one queue
-one_queue : (w : World) (q : ℕ) → IsWorld w → q < length w.queues → (q ≡ 0) × (length w.queues ≡ 1)
-one_queue w q world within = (omega (arith, within, world.few_queues), omega (arith, within, world.few_queues))
+one_queue : (w : World) (q : ℕ) → HasOneQueueAtMost w → q < length w.queues → (q ≡ 0) × (length w.queues ≡ 1)
+one_queue w q most within = (omega (arith, within, most.few_queues), omega (arith, within, most.few_queues))
 
 no_other : (w : World) (h : List Event) (q : ℕ) → q ≡ 0 → length w.queues ≡ 1 → other_counters h q 0 (length w.queues) ≡ []
 no_other w h q zeroth one = ap (other_counters h q 0) one ∙ ap (λ p. other_counters h p 0 1) zeroth
@@ -59,11 +59,11 @@ waits_are w h earlier q before (Execute cs) zeroth one named =
 waits_are w h earlier q before (Signal f v) zeroth one named =
     ap (λ p. other_pending w h p f.0 [] earlier) zeroth ∙ no_pending w h f.0 earlier [] one named
 
--- what the worker submits is the lowered batch
-pub lowered_is : (w : World) (h : List Event) (v : VkState) (q : ℕ) (x : Queued) (o : Operation) → IsWorld w → IsDevice w h v → IsHeld w h v q x → q < length w.queues →
+-- what the worker submits is the lowered batch, where there is no other queue
+pub lowered_is : (w : World) (h : List Event) (v : VkState) (q : ℕ) (x : Queued) (o : Operation) → HasOneQueueAtMost w → IsDevice w h v → IsHeld w h v q x → q < length w.queues →
     lowered w h v.journal q (submitted_of v q + 1) o ≡ batch_by w q (x.submitted + 1) x.last_signal o
-lowered_is w h v q x o world device held within =
-    let one : (q ≡ 0) × (length w.queues ≡ 1) = one_queue w q world within in
+lowered_is w h v q x o most device held within =
+    let one : (q ≡ 0) × (length w.queues ≡ 1) = one_queue w q most within in
     let before : List Operation = take (submitted_of v q + 1 - 1) (operations w h q) in
     let front : before ≡ take x.submitted (operations w h q) = ap (λ k. take k (operations w h q)) (omega (arith, held.submitted_is)) in
     let waits : waits_of w h v.journal q before o ≡ waits_by (length w.queues) q x.last_signal o =

@@ -4,7 +4,13 @@ use Rattle.std.specs.List.{list_all}
 use Rattle.dx_base.specs.declared.hresult.Hresult.{Hresult}
 use Rattle.d3d_machine.specs.declared.world.World.{World}
 use Rattle.d3d_machine.specs.declared.calls.Call.{Call}
-use Rattle.d3d_machine.specs.CallEffects.{does}
+use Rattle.d3d_machine.specs.World.{HasOneQueueAtMost}
+use Rattle.d3d_machine.specs.declared.calls.Record.{Record}
+use Rattle.d3d_machine.specs.declared.calls.Record.TheVariants.{Copy}
+use Rattle.d3d_machine.specs.declared.world.Resource.{Resource}
+use Rattle.d3d_machine.specs.declared.world.Resource.TheVariants.{Buffer}
+use Rattle.d3d_machine.specs.CallEffects.{Change, records, closes, fails, begins, does}
+use Rattle.dx_base.specs.Effects.{At}
 use Rattle.d3d_machine.specs.declared.events.Operation.{Operation}
 use Rattle.d3d_machine.specs.declared.events.Event.{Event}
 use Rattle.d3d_machine.specs.declared.events.Event.TheVariants as event
@@ -81,8 +87,40 @@ AreHostAccessesQuiet w h = AreQuietFrom w (first_state w) h
 abbrev pub AreSingle : World → List Event → Type 0
 AreSingle w h = (q : ℕ) → list_all is_single (operations w h q) ≡ true
 
--- host accesses come only where no called operation is incomplete, and each called operation has at most one command
+-- a resource is a buffer, where it lives
+abbrev pub is_buffer : Option Resource → Bool
+is_buffer None = true
+is_buffer (Some (Buffer home words)) = true
+
+-- a command copies words of a buffer into a buffer
+abbrev pub copies_buffer : Record → Bool
+copies_buffer (Copy d doff s soff bytes) = true
+
+-- a change of a list records no other command
+abbrev pub changes_by_copies : Change → Bool
+changes_by_copies (records what) = copies_buffer what
+changes_by_copies closes = true
+changes_by_copies fails = true
+changes_by_copies (begins a) = true
+
+abbrev pub lists_copies : Option (At Change) → Bool
+lists_copies None = true
+lists_copies (Some x) = changes_by_copies x.what
+
+-- a call records no other command than a copy of a buffer
+abbrev pub records_copies : Call → Bool
+records_copies c = lists_copies (does c).list
+
+-- a world of buffers: it has one queue at most, its resources are buffers, and its lists record copies of buffers alone
+pub record IsOfBuffers (w : World) : Type 0 where
+  pub queues : HasOneQueueAtMost w
+  pub resources : list_all is_buffer w.resources ≡ true
+  pub records_alone : list_all (λ script. list_all records_copies script) w.scripts ≡ true
+
+-- a history of a world of buffers is calm: host accesses come only where no called operation is incomplete, and each
+-- called operation has at most one command
 pub record IsCalm (w : World) (h : List Event) : Type 0 where
+  pub world : IsOfBuffers w
   pub quiet : AreHostAccessesQuiet w h
   pub single : AreSingle w h
 

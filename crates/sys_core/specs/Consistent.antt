@@ -1,5 +1,5 @@
 -- What the system's parts are after a history, and what the system keeps at every step.
-use Rattle.std.specs.Prelude.{ℕ, ◌≡◌, ◌≤◌, ◌<◌, ◌+◌, ◌-◌, ◌&&◌, nat_lt, List, [], ◌∷◌, length, map, take, drop, slice_get, Some, true}
+use Rattle.std.specs.Prelude.{ℕ, ◌≡◌, ◌≤◌, ◌<◌, ◌+◌, ◌-◌, nat_lt, List, [], ◌∷◌, length, map, take, drop, slice_get, Some, true}
 use Rattle.std.specs.List.{list_all}
 use Rattle.d3d_machine.specs.declared.world.World.{World}
 use Rattle.d3d_machine.specs.declared.events.Listed.{Listed}

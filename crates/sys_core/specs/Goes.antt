@@ -1,5 +1,5 @@
 -- The steps of the system by choices.
-use Rattle.std.specs.Prelude.{ℕ, ◌≡◌, ◌<◌, ◌≤◌, ◌+◌, ◌%◌, List, [], ◌∷◌, ◌++◌, length, slice_get, Some}
+use Rattle.std.specs.Prelude.{ℕ, ◌≡◌, ◌<◌, ◌+◌, ◌%◌, List, [], ◌∷◌, ◌++◌, length, slice_get, Some}
 use Rattle.dx_base.specs.declared.steps.Step.{Step}
 use Rattle.dx_base.specs.declared.steps.Step.TheVariants as step
 use Rattle.dx_base.specs.declared.hresult.Hresult.{Hresult}
@@ -14,6 +14,8 @@ use Rattle.d3d_machine.specs.Play.{IsFinished, state_after}
 use Rattle.vk_port.specs.VkState.{VkState}
 use Rattle.sys_core.specs.Keeps.{SysView}
 use Rattle.sys_core.specs.Steps.{enabled_of, thread_event, after_event, submitted_batches, after_submits, IsDeviceStep}
+use Rattle.vk_port.specs.Left.{steps_left}
+use Rattle.sys_core.specs.StepCount.{rest_used, count_calls, count_wakings, batches_steps}
 use Rattle.sys_core.specs.Work.{work}
 
 -- the state of the system: its history, and its device's state; the operations that are called and not submitted are
@@ -34,7 +36,7 @@ IsStep w s (step.Worker q) u = u ≡ record { history = s.history; device = afte
 IsStep w s (step.Device k) u = IsDeviceStep s.history u.history s.device u.device k
 
 -- one choice: the system has not finished, and the step is the one that can be taken whose place is the choice modulo their
--- number; `free` is how many free steps the device offers, which are none where it had none left to take before
+-- number; `free` is how many free steps the device offers, which are none where it has none left to take
 pub record Chooses (w : World) (rest c : ℕ) (s u : SysState) : Type 0 where
   pub running : IsFinished w (state_after w s.history).desk → ⊥
   pub free : ℕ
@@ -44,18 +46,27 @@ pub record Chooses (w : World) (rest c : ℕ) (s u : SysState) : Type 0 where
   pub chosen : slice_get (enabled_of w s.history s.device free) (c % length (enabled_of w s.history s.device free)) ≡ Some step
   pub goes : IsStep w s step u
 
--- choices lead from one state to another by these steps; the device had so many free steps left to take before them
-abbrev pub Goes : World → ℕ → SysState → List ℕ → List Step → SysState → Type 0
-Goes w rest s [] [] t = s ≡ t
-Goes w rest s [] (k ∷ ks) t = ⊥
-Goes w rest s (c ∷ cs) [] t = ⊥
-Goes w rest s (c ∷ cs) (k ∷ ks) t = (u : SysState) × (m : Chooses w rest c s u) × (m.step ≡ k) × Goes w rest u cs ks t
+-- choices lead from one state to another by these steps, on a device that has so many free steps left to take before them,
+-- and so many behind them: one fewer behind each free step
+abbrev pub Goes : World → ℕ → SysState → List ℕ → List Step → ℕ → SysState → Type 0
+Goes w rest s [] [] left t = (s ≡ t) × (rest ≡ left)
+Goes w rest s [] (k ∷ ks) left t = ⊥
+Goes w rest s (c ∷ cs) [] left t = ⊥
+Goes w rest s (c ∷ cs) (k ∷ ks) left t =
+    (u : SysState) × (now : ℕ) × (m : Chooses w rest c s u) × (m.step ≡ k) × (rest ≡ now + rest_used s.device k) × Goes w now u cs ks left t
 
--- a step of the system was taken
+-- the events of threads, and the batches with the steps that they take
+abbrev pub tally : SysState → ℕ
+tally s = (count_calls s.history + count_wakings s.history) + (length s.device.journal + batches_steps s.device.journal)
+
+-- a step of the system was taken: it is one more call, waking or batch, one free step fewer, or one step fewer that is left
+-- of the device's batches
 pub record WasTaken {D : Type 0} (state : D → VkState) (rest_of : D → ℕ) (k : Step) (s u : SysView D) : Type 0 where
   pub world : u.world ≡ s.world
   pub goes : IsStep s.world (state_of state s) k (state_of state u)
-  pub rest : rest_of u.device ≤ rest_of s.device
+  pub rest : rest_of s.device ≡ rest_of u.device + rest_used (state s.device) k
+  pub counts : (tally (state_of state u) + steps_left (state s.device)) + rest_of s.device
+      ≡ (tally (state_of state s) + steps_left (state u.device)) + (rest_of u.device + 1)
   pub falls : work u.world u.history (state u.device) + rest_of u.device < work s.world s.history (state s.device) + rest_of s.device
 
 -- where a call was answered by an error, it had no effect: the device is as before, and so is the machine but for what a

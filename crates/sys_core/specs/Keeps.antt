@@ -3,7 +3,7 @@ use Rattle.std.specs.Prelude.{ℕ, ◌≡◌, List, map, Option, Some, None, Boo
 use Rattle.d3d_machine.specs.declared.world.World.{World}
 use Rattle.d3d_machine.specs.declared.calls.Call.{Call}
 use Rattle.d3d_machine.specs.declared.events.Event.{Event}
-use Rattle.d3d_machine.specs.World.{IsWorld}
+use Rattle.d3d_machine.specs.World.{IsWorld, HasOneQueueAtMost}
 use Rattle.d3d_machine.specs.Play.{IsRunButWords}
 use Rattle.vk_types.specs.declared.plan.DevicePlan.{DevicePlan}
 use Rattle.vk_port.specs.VkState.{VkState}
@@ -13,6 +13,7 @@ use Rattle.sys_core.specs.Lowering.{plan_of_world, AreNumbers}
 use Rattle.sys_core.specs.Parts.{queued, updates_in, is_met_by}
 use Rattle.sys_core.specs.Consistent.{IsDevice, IsConsistent}
 use Rattle.sys_core.specs.Ahead.{IsWhole}
+use Rattle.sys_core.specs.Steps.{enabled_of}
 
 -- what is seen of the system: its world, its history, and its device
 pub record SysView (D : Type 0) : Type 0 where
@@ -26,9 +27,10 @@ pub record Keeps {D : Type 0} (state : D → VkState) (plan_of : D → Option De
   pub plan : plan_of d ≡ Some (plan_of_world w)
   pub numbers : AreNumbers w.resources p.numbers
 
--- the history is a run of the world but for words, and the device stands
+-- the world is valid and has one queue at most, the history is a run of it but for words, and the device stands
 pub record IsSystem (w : World) (h : List Event) (v : VkState) : Type 0 where
   pub world : IsWorld w
+  pub queues : HasOneQueueAtMost w
   pub run : IsRunButWords w h
   pub device : IsDevice w h v
 
@@ -36,8 +38,12 @@ pub record IsSystem (w : World) (h : List Event) (v : VkState) : Type 0 where
 abbrev pub ready_by : List Call → List (List ℕ) → Seat → Bool
 ready_by script fences s = elim s.waits [ None ↦ nat_lt s.made (length script) | Some a ↦ is_met_by fences a ]
 
--- what the type of the system keeps: its parts and its device are those after the history, and a calm history is a run
--- with its words
-pub record IsSys {D : Type 0} (state : D → VkState) (plan_of : D → Option DevicePlan) (w : World) (h : List Event) (p : Parts) (d : D) : Type 0 where
+-- what the type of the system keeps: its parts and its device are those after the history, its world has one queue at
+-- most, since a batch is made as where there is no other queue, a calm history is a run with its words, and so many steps
+-- can be taken; a device that has no free step left to take offers none
+pub record IsSys {D : Type 0} (state : D → VkState) (plan_of : D → Option DevicePlan) (rest_of offered : D → ℕ) (w : World) (h : List Event) (p : Parts) (d : D) (enabled : ℕ) : Type 0 where
   pub keeps : Keeps state plan_of w h p d
+  pub queues : HasOneQueueAtMost w
   pub whole : IsWhole w h (state d)
+  pub counted : enabled ≡ length (enabled_of w h (state d) (offered d))
+  pub none_at_rest : rest_of d ≡ 0 → offered d ≡ 0

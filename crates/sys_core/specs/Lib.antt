@@ -12,6 +12,7 @@ pub mod Keeps
 pub mod InOrder
 pub mod Ahead
 pub mod Nth
+pub mod StepCount
 pub mod Goes
 pub mod Over
 pub mod Opened

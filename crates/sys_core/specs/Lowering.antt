@@ -52,10 +52,6 @@ plan_of_world w = record {
   timelines = length w.queues + 1;
 }
 
--- a device has no plan, or that of the world
-abbrev pub HasPlanAtMost : World → Option DevicePlan → Type 0
-HasPlanAtMost w plan = (plan ≡ None) ⊎ (plan ≡ Some (plan_of_world w))
-
 -- the start-up batch: the first queue's batch 0, which sets the start-up timeline to 1
 abbrev pub startup : World → Batch
 startup w = record { queue = 0; number = 0; waits = []; commands = []; sets = (length w.queues, 1) ∷ [] }

@@ -157,3 +157,11 @@ pub record HasRoomAt (fences : List (Roomy ℕ)) (f : ℕ) : Type 0 where
 abbrev pub HasRoomFor : Option Signalled → List (Roomy ℕ) → Type 0
 HasRoomFor None fences = Unit {0}
 HasRoomFor (Some s) fences = HasRoomAt fences s.fence.0
+
+-- the fence of each queue's first submitted signal can take one more update without asking for memory
+pub record HasRoomForEach (held : List Held) (fences : List (Roomy ℕ)) : Type 0 where
+  pub each : (q : ℕ) (x : Held) → slice_get held q ≡ Some x → HasRoomFor (first_signal (queued x)) fences
+
+-- a fence that could take one more update without asking for memory still can
+pub record KeepsRoom (old new : List (Roomy ℕ)) : Type 0 where
+  pub each : (f : ℕ) → HasRoomAt old f → HasRoomAt new f

@@ -2,12 +2,13 @@
 
 ghost use Rattle.std.specs.Prelude.{◌≡◌, ◌<◌, ◌≤◌, ◌+◌, ◌^◌, ◌++◌, ◌∷◌, [], map, length, true, slice_get, slice_index_or, Some, None, IfOk, OnOk, OnErr, IsSome, IfSome};
 ghost use Rattle.dx_base.specs.Lists.{changed_at};
-ghost use Rattle.sys_core.specs.Parts.{queued, updates_in, signal_at, without, updated_by, first_signal, HasRoomAt, HasRoomFor};
+ghost use Rattle.sys_core.specs.Parts.{queued, updates_in, signal_at, without, updated_by, first_signal, HasRoomFor, HasRoomForEach, KeepsRoom};
 ghost use Rattle.sys_core.specs.Steps.{step_events, IsDeviceStep};
 ghost use Rattle.sys_core.specs.Serving.{HasCause};
 ghost use Rattle.sys_core.specs.Keeps.{Keeps};
 ghost use Rattle.vk_port.specs.Offers.{steps_offered};
-ghost use Rattle.vk_port.specs.Enabled.{enabled_steps};
+ghost use Rattle.dx_base.specs.declared.steps.Step.TheVariants as step;
+ghost use Rattle.sys_core.specs.StepCount.{rest_used};
 ghost use Rattle.sys_core.specs.declared.parts.Held.{Held};
 
 use crate::faults::SysFault;
@@ -16,9 +17,6 @@ use crate::parts::{Held, Parts, Signalled};
 use d3d_machine::{Event, World};
 use dx_base::{Memory, QueueId, Room, Seq};
 use vk_port::{NoSets, Stepped, VkDevice};
-
-/// The place of the one queue, where there is one.
-const ONE_QUEUE: usize = 0;
 
 /// The first submitted signal of a queue, where its operation has that number, is taken out.
 fn take_signal(held: &mut Held, number: u64) -> Option<Signalled>
@@ -37,8 +35,10 @@ fn take_signal(held: &mut Held, number: u64) -> Option<Signalled>
 }
 
 /// Makes room for one update of the fence that a queue's first submitted signal is of.
+#[tactic(auto, using(crate::proofs::Updates::room_same))]
 fn reserve_update(held: &Held, fences: &mut Seq<Room<u64>>) -> Result<(), Memory>
     ensures room { OnOk result (HasRoomFor (first_signal (queued held.now)) fences.new) }
+    ensures kept { OnOk result (KeepsRoom fences.old fences.new) }
     ensures same { map updates_in fences.new ≡ map updates_in fences.old }
 {
     match held.signals.front() {
@@ -47,15 +47,16 @@ fn reserve_update(held: &Held, fences: &mut Seq<Room<u64>>) -> Result<(), Memory
     }
 }
 
-/// Makes room for one update of the fence that the one queue's first submitted signal is of, where there is a queue.
-fn reserve_next(held: &Seq<Held>, fences: &mut Seq<Room<u64>>) -> Result<(), Memory>
-    ensures room { OnOk result (IfSome (slice_get held.now 0) (λ x. HasRoomFor (first_signal (queued x)) fences.new)) }
+/// Makes room for one update of the fence of each queue's first submitted signal.
+#[tactic(auto, using(crate::proofs::Updates::room_none, crate::proofs::Updates::room_more))]
+fn reserve_updates(held: &Seq<Held>, fences: &mut Seq<Room<u64>>) -> Result<(), Memory>
+    ensures room { OnOk result (HasRoomForEach held.now fences.new) }
     ensures same { map updates_in fences.new ≡ map updates_in fences.old }
 {
-    match held.get(ONE_QUEUE) {
-        Some(held) => reserve_update(held, fences),
-        None => Ok(()),
+    for queue in held.as_slice() {
+        reserve_update(queue, fences)?;
     }
+    Ok(())
 }
 
 /// The signal that has completed, where one has, gives its fence its value. There is room for it.
@@ -81,8 +82,7 @@ pub(crate) fn device_step<D: VkDevice>(
     requires offered { k < steps_offered (D.state device.old) (D.offered device.old) }
     ensures keeps { Keeps D.state D.plan_of world.now history.new.items parts.new device.new }
     ensures step { OnOk result (IsDeviceStep history.old.items history.new.items (D.state device.old) (D.state device.new) k) }
-    ensures rest { OnOk result (length (enabled_steps (D.state device.old)) ≤ k → D.rest_of device.old ≡ D.rest_of device.new + 1) }
-    ensures rest_falls { D.rest_of device.new ≤ D.rest_of device.old }
+    ensures rest { OnOk result (D.rest_of device.old ≡ D.rest_of device.new + rest_used (D.state device.old) (step.Device k)) }
     ensures same { OnErr result (history.new.items ≡ history.old.items) }
     ensures same_state { OnErr result (D.state device.new ≡ D.state device.old) }
     ensures same_rest { OnErr result (D.rest_of device.new ≡ D.rest_of device.old) }
@@ -91,7 +91,7 @@ pub(crate) fn device_step<D: VkDevice>(
 {
     let _queues = world.queues.len();
     history.reserve()?;
-    reserve_next(&parts.held, &mut parts.fences)?;
+    reserve_updates(&parts.held, &mut parts.fences)?;
     match device.step(k, &mut NoSets)? {
         Stepped::Passed(_, _) => Ok(()),
         Stepped::Ran(_, _, _) => Ok(()),

@@ -3,7 +3,7 @@
 ghost use Rattle.std.specs.Prelude.{◌≡◌, ◌-◌, ◌++◌, ◌∷◌, [], map, length, IfOk, OnOk};
 ghost use Rattle.dx_base.specs.Lists.{changed_at};
 ghost use Rattle.d3d_machine.specs.Fences.{is_met};
-ghost use Rattle.sys_core.specs.Parts.{updates_in, is_met_by as met_by, HasRoomAt};
+ghost use Rattle.sys_core.specs.Parts.{updates_in, is_met_by as met_by, HasRoomAt, KeepsRoom};
 ghost use Rattle.d3d_machine.specs.Past.{updates_at, last_of};
 
 use crate::parts::Armed;
@@ -32,9 +32,10 @@ fn updates_from(alloc: Global, value: u64) -> Result<Room<u64>, Memory>
 }
 
 /// Makes room for one update of a fence, where there is that fence.
-#[tactic(auto, using(crate::proofs::Updates::room_made, crate::proofs::Updates::room_past, dx_base::proofs::Lists::map_write_same))]
+#[tactic(auto, using(crate::proofs::Updates::room_made, crate::proofs::Updates::room_past, crate::proofs::Updates::room_kept, crate::proofs::Updates::room_same, dx_base::proofs::Lists::map_write_same))]
 pub(crate) fn reserve_update_of(fences: &mut Seq<Room<u64>>, fence: FenceId) -> Result<(), Memory>
     ensures room { OnOk result (HasRoomAt fences.new fence.0) }
+    ensures kept { OnOk result (KeepsRoom fences.old fences.new) }
     ensures same { map updates_in fences.new ≡ map updates_in fences.old }
 {
     let at = fence.0 as usize;

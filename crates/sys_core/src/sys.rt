@@ -1,16 +1,16 @@
 //! The system as a whole, and its steps.
 
 ghost use Rattle.std.specs.Prelude.{◌≡◌, ◌<◌, ◌≤◌, [], length, slice_get, true, None, Some, IfOk, IfErr, OnOk, OnErr};
-ghost use Rattle.d3d_machine.specs.World.{IsWorld};
+ghost use Rattle.d3d_machine.specs.World.{IsWorld, HasOneQueueAtMost};
 ghost use Rattle.d3d_machine.specs.Play.{state_after};
 ghost use Rattle.dx_base.specs.declared.steps.Step.TheVariants as step;
 ghost use Rattle.sys_core.specs.Ahead.{IsWhole};
 ghost use Rattle.sys_core.specs.Goes.{WasTaken, AreRefusalsIdle, Stays, state_of};
 ghost use Rattle.sys_core.specs.Keeps.{Keeps, IsSystem};
-ghost use Rattle.sys_core.specs.Opened.{opened};
+ghost use Rattle.sys_core.specs.Opened.{opened, IsUnopened};
 ghost use Rattle.sys_core.specs.Over.{IsOver};
 ghost use Rattle.sys_core.specs.Serving.{HasCause, HasFaultCause};
-ghost use Rattle.sys_core.specs.Lowering.{HasPlanAtMost, plan_of_world, opening_batches, startup};
+ghost use Rattle.sys_core.specs.Lowering.{plan_of_world, opening_batches, startup};
 ghost use Rattle.sys_core.specs.Steps.{after_submits, enabled_of, is_ready_thread, is_ready_worker};
 ghost use Rattle.vk_port.specs.Offers.{steps_offered};
 ghost use Rattle.vk_port.specs.VkState.{first_state};
@@ -31,7 +31,7 @@ use vk_port::{Batch, VkDevice};
 
 /// The system: it serves the calls of the threads of a world, and runs a device. Contracts see its world, its history
 /// and its device. The history is a run of the world but for words, and the device has the batches that its operations
-/// lower to.
+/// lower to. How many steps can be taken is counted once behind each step.
 #[derive(Drop)]
 pub struct Sys<D: VkDevice> {
     alloc: Global,
@@ -39,6 +39,7 @@ pub struct Sys<D: VkDevice> {
     history: Room<Event>,
     parts: Parts,
     device: D,
+    enabled: usize,
 }
 
 impl<D: VkDevice> Model for Sys<D> {
@@ -48,7 +49,7 @@ impl<D: VkDevice> Model for Sys<D> {
 
     ghost view = { λ s. record { world = s.world; history = s.history.items; device = s.device } };
 
-    ghost invariant = { λ s. IsSys D.state D.plan_of s.world s.history.items s.parts s.device };
+    ghost invariant = { λ s. IsSys D.state D.plan_of D.rest_of D.offered s.world s.history.items s.parts s.device s.enabled };
 }
 
 /// Submits the start-up batch, where there is a queue.
@@ -80,7 +81,7 @@ fn begin<D: VkDevice>(alloc: Global, world: &World, device: &mut D) -> Result<Pa
     ensures opened { OnOk result (D.state device.new ≡ opened world.now) }
     ensures rest { D.rest_of device.new ≡ D.rest_of device.old }
     ensures no_batch { OnErr result ((D.state device.new).journal ≡ []) }
-    ensures plan { OnErr result (HasPlanAtMost world.now (D.plan_of device.new)) }
+    ensures unopened { OnErr result (IsUnopened world.now (D.plan_of device.new) (D.state device.new)) }
     ensures faults { D.faults device.old ≤ D.faults device.new }
     ensures cause { HasCause (D.faults device.old) (D.faults device.new) result }
 {
@@ -94,9 +95,10 @@ fn begin<D: VkDevice>(alloc: Global, world: &World, device: &mut D) -> Result<Pa
 
 impl<D: VkDevice> Sys<D> {
     /// The system of a world before any call. The device is new; it gets the world's objects and the start-up batch.
-    /// Refused, it is given back without a batch, and with no plan but the world's.
+    /// Refused, it is given back without a batch, and with no plan, or with the world's objects as they are at first.
     pub fn new(alloc: Global, world: World, device: D) -> Result<Sys<D>, (D, SysFault)>
         requires world { IsWorld world }
+        requires queues { HasOneQueueAtMost world }
         requires no_plan { D.plan_of device ≡ None }
         requires new { (D.state device).journal ≡ [] }
         ensures world { IfOk result (λ sys. sys.world ≡ world) }
@@ -107,20 +109,25 @@ impl<D: VkDevice> Sys<D> {
         ensures rest { IfOk result (λ sys. D.rest_of sys.device ≡ D.rest_of device) }
         ensures faults { IfOk result (λ sys. D.faults device ≤ D.faults sys.device) }
         ensures no_batch { IfErr result (λ p. (D.state p.0).journal ≡ []) }
-        ensures plan { IfErr result (λ p. HasPlanAtMost world (D.plan_of p.0)) }
+        ensures unopened { IfErr result (λ p. IsUnopened world (D.plan_of p.0) (D.state p.0)) }
         ensures rest_back { IfErr result (λ p. D.rest_of p.0 ≡ D.rest_of device) }
         ensures faults_back { IfErr result (λ p. D.faults device ≤ D.faults p.0) }
         ensures cause { IfErr result (λ p. HasFaultCause p.1 (D.faults device) (D.faults p.0)) }
     {
         let mut device = device;
         match begin(alloc, &world, &mut device) {
-            Ok(parts) => Ok(Sys {
-                alloc,
-                world,
-                history: Room::new(alloc),
-                parts,
-                device,
-            }),
+            Ok(parts) => {
+                let history = Room::new(alloc);
+                let enabled = count_steps(&world, &history, &parts, &device);
+                Ok(Sys {
+                    alloc,
+                    world,
+                    history,
+                    parts,
+                    device,
+                    enabled,
+                })
+            }
             Err(fault) => Err((device, fault)),
         }
     }
@@ -130,7 +137,7 @@ impl<D: VkDevice> Sys<D> {
         ensures count { result ≡ length (enabled_of self.now.world self.now.history (D.state self.now.device) (D.offered self.now.device)) }
         ensures none_at_rest { D.rest_of self.now.device ≡ 0 → D.offered self.now.device ≡ 0 }
     {
-        count_steps(&self.world, &self.history, &self.parts, &self.device)
+        self.enabled
     }
 
     /// The step of a place among those that can be taken, counted from 0: threads come first, then workers, then the
@@ -154,14 +161,16 @@ impl<D: VkDevice> Sys<D> {
         ensures faults { D.faults self.old.device ≤ D.faults self.new.device }
         ensures cause { HasCause (D.faults self.old.device) (D.faults self.new.device) result }
     {
-        threads::thread_step(
+        let taken = threads::thread_step(
             self.alloc,
             &self.world,
             &mut self.history,
             &mut self.parts,
             &mut self.device,
             thread,
-        )
+        );
+        self.enabled = count_steps(&self.world, &self.history, &self.parts, &self.device);
+        taken
     }
 
     /// A step of a queue's worker: the batch of its next operation is submitted. Refused, all stays.
@@ -175,14 +184,16 @@ impl<D: VkDevice> Sys<D> {
         ensures faults { D.faults self.old.device ≤ D.faults self.new.device }
         ensures cause { HasCause (D.faults self.old.device) (D.faults self.new.device) result }
     {
-        worker::worker_step(
+        let taken = worker::worker_step(
             self.alloc,
             &self.world,
             &self.history,
             &mut self.parts,
             &mut self.device,
             queue,
-        )
+        );
+        self.enabled = count_steps(&self.world, &self.history, &self.parts, &self.device);
+        taken
     }
 
     /// A step of the device, of that place among those that it offers, counted from 0. Refused, all stays.
@@ -195,13 +206,15 @@ impl<D: VkDevice> Sys<D> {
         ensures faults { D.faults self.old.device ≤ D.faults self.new.device }
         ensures cause { HasCause (D.faults self.old.device) (D.faults self.new.device) result }
     {
-        device_steps::device_step(
+        let taken = device_steps::device_step(
             &self.world,
             &mut self.history,
             &mut self.parts,
             &mut self.device,
             k,
-        )
+        );
+        self.enabled = count_steps(&self.world, &self.history, &self.parts, &self.device);
+        taken
     }
 
     /// How far the system has come.
@@ -211,7 +224,7 @@ impl<D: VkDevice> Sys<D> {
     {
         if is_finished(&self.world, &self.history, &self.parts, &self.device) {
             Over::Done
-        } else if count_steps(&self.world, &self.history, &self.parts, &self.device) == 0 {
+        } else if self.enabled == 0 {
             Over::Stalled
         } else {
             Over::Running

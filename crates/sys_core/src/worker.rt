@@ -2,6 +2,7 @@
 
 ghost use Rattle.std.specs.Prelude.{◌≡◌, ◌<◌, ◌≤◌, ◌+◌, ◌^◌, ◌++◌, ◌∷◌, [], map, length, true, slice_get, Some, None, IfOk, OnOk, OnErr, IsSome, IfSome};
 ghost use Rattle.dx_base.specs.Lists.{changed_at};
+ghost use Rattle.d3d_machine.specs.World.{HasOneQueueAtMost};
 ghost use Rattle.sys_core.specs.Batches.{batch_by, is_numbered_operation};
 ghost use Rattle.sys_core.specs.Lowering.{AreNumbers};
 ghost use Rattle.sys_core.specs.Parts.{queued, submitted_one, signal_of};
@@ -82,6 +83,7 @@ pub(crate) fn worker_step<D: VkDevice>(
     queue: QueueId,
 ) -> Result<(), SysFault>
     requires keeps { Keeps D.state D.plan_of world.now history.now.items parts.old device.old }
+    requires queues { HasOneQueueAtMost world.now }
     requires queue { queue.0 < length world.now.queues }
     requires ready { is_ready_worker world.now history.now.items (D.state device.old) queue.0 ≡ true }
     ensures keeps { Keeps D.state D.plan_of world.now history.now.items parts.new device.new }

@@ -1,5 +1,5 @@
 -- What a run is at its end, and what a call says of it.
-use Rattle.std.proofs.Common.{ℕ, ◌≡◌, ◌<◌, ◌≤◌, ◌-◌, ◌^◌, ◌∙◌, sym, ap, subst, refl, arith, List, length, take, Some, None, Option, ◌⊎◌, inl, inr, IfSome, IfOk, IfErr, OnOk, Result, Ok, Err, Bor}
+use Rattle.std.proofs.Common.{ℕ, ◌≡◌, ◌<◌, ◌≤◌, ◌-◌, ◌^◌, ◌∙◌, sym, ap, subst, refl, arith, List, length, take, Some, None, Option, ◌⊎◌, inl, inr, IsSome, IfSome, IfOk, IfErr, OnOk, Result, Ok, Err, Bor}
 use Rattle.std.specs.Option.{option_copied, unwrap_or}
 use Rattle.std.proofs.lemmas.Bool.Decides.{leb_tells}
 use Rattle.dx_base.specs.Faults.{HasRisen}
@@ -23,7 +23,7 @@ use Rattle.sys_core.specs.Serving.{HasCause, HasFaultCause}
 use Rattle.sys_core.proofs.Progress.{machine_goes}
 use Rattle.trace_text.proofs.TakenBytes.{first_bytes}
 use Rattle.trace_runner.specs.declared.words.Words.{Words}
-use Rattle.trace_runner.specs.Report.{Given, Left, IsRead, AreGood, IsUntouched, IsUnderway, IsThrough, IsLeft, Ran, RanTrace, IsRunOf, OfTrace, IsStopped, Says, ended_by, status_at, Ends, Writes, IsWritten, IsReport, IsUsageAt, IsRefusalAt, is_shown, refused_in}
+use Rattle.trace_runner.specs.Report.{Given, Left, IsRead, AreGood, IsUnbegun, IsUnderway, IsThrough, IsLeft, Ran, RanTrace, IsRunOf, OfTrace, IsStopped, Says, ended_by, status_at, Ends, Writes, IsWritten, IsReport, IsUsageAt, IsRefusalAt, IsUnrun, IsTraceGiven, IsFaultless, IsComplete, outcome_of, is_shown, refused_in}
 use Rattle.trace_runner.specs.Steps.{Went}
 use Rattle.trace_runner.specs.Words.{said_by}
 use Rattle.d3d_machine.proofs.Places.{runs_follow_scripts}
@@ -31,7 +31,7 @@ use Rattle.sys_core.specs.Laws.{CanGoOn}
 use Rattle.trace_runner.proofs.OfRounds.{rounds_are_calm, rounds_go_on}
 
 -- a run that took steps
-underway : (w : World) (l : Left) → Went w l.rest l.choices l.taken l.history l.device → IsSystem w l.history l.device → IsWhole w l.history l.device → IsUnderway w l
+underway : (w : World) (l : Left) → Went w l.rest.0 l.rest.1 l.choices l.taken l.history l.device → IsSystem w l.history l.device → IsWhole w l.history l.device → IsUnderway w l
 underway w l went system whole = record {
   went = went;
   run = system.run;
@@ -52,7 +52,7 @@ ran_over w l over.Running s system is far last at = elim last [
 ]
 ran_over w l over.Done s system is far last at = subst (Ran w l) (sym at) (record { through = is; finished = far })
 ran_over w l over.Stalled s system is far last at =
-    let stuck : CanGoOn w l.history → ⊥ = λ can. omega (arith, far.1, machine_goes w l.history l.device l.offered system.world system.run system.device can) in
+    let stuck : CanGoOn w l.history → ⊥ = λ can. omega (arith, far.1, machine_goes w l.history l.device l.offered system.queues system.run system.device can) in
     subst (Ran w l) (sym at)
     (record {
       through = is;
@@ -69,7 +69,7 @@ ran_fault w l fault.Memory s under cause at = subst (Ran w l) (sym at) (inr unde
 ran_fault w l fault.Lost s under cause at = subst (Ran w l) (sym at) (cause, inr under)
 
 -- the run is finished or stalled where no step is left, and else cut short
-pub ran_end : (w : World) (l : Left) (s : Status) (end : Result Over SysFault) → Went w l.rest l.choices l.taken l.history l.device → IsSystem w l.history l.device → IsWhole w l.history l.device →
+pub ran_end : (w : World) (l : Left) (s : Status) (end : Result Over SysFault) → Went w l.rest.0 l.rest.1 l.choices l.taken l.history l.device → IsSystem w l.history l.device → IsWhole w l.history l.device →
     IfOk end (λ o. IsOver w l.history l.device l.offered o) → IfOk end (λ o. (o ≡ over.Done) ⊎ (o ≡ over.Stalled)) → OnOk end (length l.choices ≡ length l.taken) →
     HasCause l.faults.0 l.faults.1 end → Ends end (state_after w l.history).desk.fences (s, l.fences) → Ran w l s
 ran_end w l s (Ok o) went system whole far last equal cause (inl done) =
@@ -78,7 +78,7 @@ ran_end w l s (Ok o) went system whole far last equal cause (inr memory) = subst
 ran_end w l s (Err e) went system whole far last equal cause at = ran_fault w l e s (underway w l went system whole) cause at
 
 -- a run that was refused before its first step
-pub ran_none : (w : World) (l : Left) (e : SysFault) (s : Status) → IsUntouched l → HasFaultCause e l.faults.0 l.faults.1 → s ≡ ended_by e → Ran w l s
+pub ran_none : (w : World) (l : Left) (e : SysFault) (s : Status) → IsUnbegun w l → HasFaultCause e l.faults.0 l.faults.1 → s ≡ ended_by e → Ran w l s
 ran_none w l fault.Memory s none cause at = subst (Ran w l) (sym at) (inl none)
 ran_none w l fault.Lost s none cause at = subst (Ran w l) (sym at) (cause, inl none)
 
@@ -148,9 +148,9 @@ of_cut told l s (Some v) is = cut told l s v is
 says_memory : (g : Given) (t : Option Value) (l : Left) (s : Status) → Says g t l s → Says g t l status.Memory
 says_memory g t l status.Done is = inr (is.0, of_cut g.told l status.Done t is.1)
 says_memory g t l status.Stalled is = inr (is.0, of_cut g.told l status.Stalled t is.1)
-says_memory g t l (status.Usage k) is = inl is.1.untouched
-says_memory g t l (status.Refused n why) is = inl is.1.1.untouched
-says_memory g t l status.ReadFault is = inl is.1.1.untouched
+says_memory g t l (status.Usage k) is = inl is.1
+says_memory g t l (status.Refused n why) is = inl is.1.1
+says_memory g t l status.ReadFault is = inl is.1.1
 says_memory g t l status.WriteFault is = absurd is
 says_memory g t l (status.Broken r n) is = absurd is
 says_memory g t l (status.Torn x) is = absurd is
@@ -231,6 +231,69 @@ refused_of g sink before after left s report = by_words (said_by g.words) refl
     by_words : (r : Result Words ℕ) → said_by g.words ≡ r → IfOk r (λ _. IfSome g.told (λ all. IfErr (value_of all) (λ p. IsRefusalAt p s)))
     by_words (Ok said) is = by_told said is g.told refl
     by_words (Err k) is = tt
+
+-- a trace that was run has no status of a call that ends before
+pub is_run : (v : Value) (t : Option Value) (l : Left) (s : Status) → RanTrace v t l s → IsUnrun s → ⊥
+is_run v None l s ran unrun = subst IsUnrun ran.0 unrun
+is_run v (Some x) l s ran unrun = by_status s ran.1 unrun
+  where
+    by_status : (s : Status) → Ran (world_of_value v) l s → IsUnrun s → ⊥
+    by_status status.Done ran unrun = unrun
+    by_status status.Stalled ran unrun = unrun
+    by_status (status.Usage k) ran unrun = ran
+    by_status (status.Refused n why) ran unrun = ran
+    by_status status.ReadFault ran unrun = ran
+    by_status status.WriteFault ran unrun = ran
+    by_status (status.Broken r n) ran unrun = ran
+    by_status (status.Torn y) ran unrun = ran
+    by_status status.DeviceLost ran unrun = unrun
+    by_status status.Memory ran unrun = unrun
+
+-- the source's text says something where it says that
+pub says_some : (told : Option (List ℕ)) (v : Value) → IfSome told (λ all. value_of all ≡ Ok v) → IfSome told (λ all. (u : Value) × (value_of all ≡ Ok u))
+says_some None v says = tt
+says_some (Some all) v says = (v, says)
+
+-- where the report has such a status, the run had it
+pub unrun_meant : (sink : ℕ × ℕ) (before after : Option (List ℕ)) (t : Option Value) (o : Outcome) (s : Status) → IsWritten sink before after t o s → IsUnrun s → IsUnrun o.status
+unrun_meant sink before after t o s written unrun = by_text written.text
+  where
+    by_text : Writes before after sink (output_of t (record o { status = written.meant })) written.meant s → IsUnrun o.status
+    by_text (inl whole) = elim written.same [
+      | inl same ↦ subst IsUnrun same (subst IsUnrun whole.0 unrun)
+      | inr memory ↦ absurd (subst IsUnrun memory (subst IsUnrun whole.0 unrun))
+    ]
+    by_text (inr part) = absurd (subst IsUnrun part.0 unrun)
+
+said_twice : (told : Option (List ℕ)) (p : ℕ × Cause) → IsSome told → IfSome told (λ all. value_of all ≡ Err p) → IfSome told (λ all. (v : Value) × (value_of all ≡ Ok v)) → ⊥
+said_twice None p some refused says = absurd (cc)
+said_twice (Some all) p some refused says = let e : Err p ≡ Ok says.0 = sym refused ∙ says.1 in cc
+
+lost_risen : (told : Option (List ℕ)) (l : Left) (t : Option Value) → OfTrace (IsRunOf told l status.DeviceLost) t → HasRisen l.faults.0 l.faults.1
+lost_risen told l None is = absurd is
+lost_risen told l (Some v) is = is.ran.0
+
+-- where a trace is given and no fault is told, the run is done, stalled or out of memory
+complete_meant : (g : Given) (t : Option Value) (l : Left) (s : Status) → IsTraceGiven g.words g.told → IsSome g.told → (HasRisen g.source.0 g.source.1 → ⊥) →
+    (HasRisen l.faults.0 l.faults.1 → ⊥) → Says g t l s → IsComplete s
+complete_meant g t l status.Done given some reads runs is = tt
+complete_meant g t l status.Stalled given some reads runs is = tt
+complete_meant g t l (status.Usage k) given some reads runs is = absurd (bad_words g.words k is.0 given.good)
+complete_meant g t l (status.Refused n why) given some reads runs is = absurd (said_twice g.told (n, why) some is.1.0 given.says)
+complete_meant g t l status.ReadFault given some reads runs is = absurd (reads is.1.0)
+complete_meant g t l status.WriteFault given some reads runs is = absurd is
+complete_meant g t l (status.Broken r n) given some reads runs is = absurd is
+complete_meant g t l (status.Torn x) given some reads runs is = absurd is
+complete_meant g t l status.DeviceLost given some reads runs is = absurd (runs (lost_risen g.told l t is.1))
+complete_meant g t l status.Memory given some reads runs is = tt
+
+pub complete_of : (g : Given) (sink : ℕ × ℕ) (before after : Option (List ℕ)) (left : List ℕ → Left) (s : Status) → (report : IsReport g sink before after left s) →
+    IsTraceGiven g.words g.told → IsSome g.told → IsFaultless g.source sink (left report.fences).faults → IsComplete s
+complete_of g sink before after left s report given some none = by_text report.text
+  where
+    by_text : Writes before after sink (output_of report.trace (outcome_of g report.trace (left report.fences) report.meant)) report.meant s → IsComplete s
+    by_text (inl whole) = subst IsComplete (sym whole.0) (complete_meant g report.trace (left report.fences) report.meant given some none.reads none.runs report.says)
+    by_text (inr part) = absurd (none.writes part.1.1)
 
 -- the text that is there
 text_there : (o : Option (Bor (List ℕ))) (d : Bor (List ℕ)) (line text : List ℕ) → option_copied o ≡ Some line → IfSome o (λ x. x.now ≡ text) → (unwrap_or o d).now ≡ text

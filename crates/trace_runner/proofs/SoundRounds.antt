@@ -14,9 +14,9 @@ use Rattle.trace_words.specs.Words.{is_name}
 use Rattle.line_forms.specs.declared.kind.Kind.{Kind}
 use Rattle.line_forms.specs.declared.kind.Kind.TheVariants as kind
 use Rattle.trace_text.specs.Kinds.{count_of, most_of}
-use Rattle.trace_text.specs.Scripts.{lists_of_call}
+use Rattle.d3d_machine.specs.Counts.{lists_of_call}
 use Rattle.trace_text.specs.Sound.{is_wide, is_sound_call, IsSound}
-use Rattle.trace_text.specs.WorldOf.{objects_of}
+use Rattle.trace_text.specs.WorldOf.{objects_from}
 use Rattle.trace_runner.specs.Rounds.{Round, AreRising, IsSmall, AreSmall, calls_of, world_of_rounds, names_of_rounds, objects_of_rounds, value_of_rounds}
 
 -- four words of 32 bits are data words
@@ -77,7 +77,7 @@ equal_bytes = search (comparing)
 
 -- what a trace of at most 4,096 rounds says is sound
 pub sound_rounds : (rounds : List Round) → AreRising 0 rounds → AreSmall rounds → length rounds ≤ 4096 → IsSound (value_of_rounds rounds)
-unfolding is_name objects_of
+unfolding is_name objects_from
 sound_rounds rounds rising small most = record {
   named_all = refl;
   spelled = refl;

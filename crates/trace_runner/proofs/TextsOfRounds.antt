@@ -16,12 +16,11 @@ use Rattle.trace_text.specs.Known.{KnownNames, known_names, names_of_kind}
 use Rattle.trace_text.specs.Laws.{HasShortLines}
 use Rattle.line_forms.specs.Lines.{hex_word, hex_from, rest_of_line}
 use Rattle.trace_text.specs.Values.{value_of}
-use Rattle.trace_text.specs.WorldOf.{objects_of, world_of_value}
+use Rattle.trace_text.specs.WorldOf.{objects_from, world_of_value}
 use Rattle.line_forms.proofs.PlainWords.{line_of}
 use Rattle.line_forms.proofs.WordsBack.{length_hex}
 use Rattle.trace_text.proofs.Fitting.{printed_line}
-use Rattle.trace_text.proofs.PrintedItems.{printed_lines}
-use Rattle.trace_text.proofs.PrintedTraces.{text_is}
+use Rattle.trace_text.proofs.PrintedLines.{printed_lines, text_is}
 use Rattle.trace_text.proofs.SoundWritten.{sound_reads}
 use Rattle.trace_runner.specs.Rounds.{Round, AreRising, IsSmall, AreSmall, IsOfRounds, first_round, first_lines, calls_of, names_of_rounds, objects_of_rounds, value_of_rounds}
 use Rattle.trace_runner.proofs.ShortLines.{AreBrief, pieces_short, text_short}
@@ -100,7 +99,7 @@ rounds_are_read rounds rising small most =
 
 -- what it says has a world of rounds
 pub rounds_have_worlds : (rounds : List Round) → AreRising 0 rounds → IsOfRounds (world_of_value (value_of_rounds rounds))
-unfolding objects_of
+unfolding objects_from
 rounds_have_worlds rounds rising = record { rounds = rounds; rising = rising; world = refl }
 
 -- the text of the first example's round

@@ -14,6 +14,7 @@ use Rattle.trace_text.specs.declared.status.Status.TheVariants as status
 use Rattle.trace_text.specs.Output.{output_of, refused_of}
 use Rattle.trace_text.specs.Values.{Value, value_of}
 use Rattle.trace_text.specs.WorldOf.{world_of_value}
+use Rattle.vk_types.specs.declared.plan.DevicePlan.{DevicePlan}
 use Rattle.vk_port.specs.VkState.{VkState}
 use Rattle.sys_core.specs.declared.faults.SysFault.{SysFault}
 use Rattle.sys_core.specs.declared.faults.SysFault.TheVariants as fault
@@ -22,6 +23,7 @@ use Rattle.sys_core.specs.declared.over.Over.TheVariants as over
 use Rattle.sys_core.specs.Ahead.{IsCalm}
 use Rattle.sys_core.specs.Consistent.{IsDevice}
 use Rattle.sys_core.specs.Laws.{CanGoOn}
+use Rattle.sys_core.specs.Opened.{IsUnopened}
 use Rattle.sys_core.specs.Steps.{enabled_of}
 use Rattle.trace_runner.specs.Rounds.{IsOfRounds}
 use Rattle.trace_runner.specs.Steps.{Went}
@@ -35,17 +37,19 @@ pub record Given : Type 0 where
   pub told : Option (List ℕ)
   pub source : ℕ × ℕ
 
--- what a run left: the counts of faults of the device before and after, how many free steps it had left to take before, the
--- choices, the steps taken, the history, the fences' last values, the device, and how many free steps it offers
+-- what a run left: the counts of faults of the device before and after, how many free steps it had left to take before and
+-- after, the choices, the steps taken, the history, the fences' last values, the device, how many free steps it offers, and
+-- its plan
 pub record Left : Type 0 where
   pub faults : ℕ × ℕ
-  pub rest : ℕ
+  pub rest : ℕ × ℕ
   pub choices : List ℕ
   pub taken : List Step
   pub history : List Event
   pub fences : List ℕ
   pub device : VkState
   pub offered : ℕ
+  pub plan : Option DevicePlan
 
 -- a text that says something: the one that the source had, where it tells it
 pub record IsRead (told : Option (List ℕ)) (v : Value) : Type 0 where
@@ -65,11 +69,16 @@ pub record IsUntouched (l : Left) : Type 0 where
   pub events : l.history ≡ []
   pub batches : l.device.journal ≡ []
 
--- the choices lead to the history and the device by the steps that were taken; the history is a run but for words, in which
+-- nothing has happened, and the device has no plan, or the world's objects as they are at first
+pub record IsUnbegun (w : World) (l : Left) : Type 0 where
+  pub untouched : IsUntouched l
+  pub unopened : IsUnopened w l.plan l.device
+
+-- the choices lead to the history and the device by the steps that were taken, which are counted; the history is a run but for words, in which
 -- each thread's calls are the first of its script, and a run with its words where it is calm, and so in a world of rounds;
 -- the device has the batches that its operations lower to
 pub record IsUnderway (w : World) (l : Left) : Type 0 where
-  pub went : Went w l.rest l.choices l.taken l.history l.device
+  pub went : Went w l.rest.0 l.rest.1 l.choices l.taken l.history l.device
   pub run : IsRunButWords w l.history
   pub scripts : AreOfScripts w l.history
   pub calm : IsCalm w l.history → IsRun w l.history
@@ -78,7 +87,7 @@ pub record IsUnderway (w : World) (l : Left) : Type 0 where
 
 -- what a run leaves that was cut short
 abbrev pub IsLeft : World → Left → Type 0
-IsLeft w l = IsUntouched l ⊎ IsUnderway w l
+IsLeft w l = IsUnbegun w l ⊎ IsUnderway w l
 
 -- a run took its last step
 pub record IsThrough (w : World) (l : Left) : Type 0 where
@@ -122,10 +131,11 @@ abbrev pub OfTrace : (Value → Type 0) → Option Value → Type 0
 OfTrace P None = ⊥
 OfTrace P (Some v) = P v
 
--- a call that ended before a trace was read, or whose trace was refused
+-- a call that ended before a trace was read, or whose trace was refused: nothing has happened, and the device has no plan
 pub record IsStopped (t : Option Value) (l : Left) : Type 0 where
   pub no_trace : t ≡ None
   pub untouched : IsUntouched l
+  pub no_plan : l.plan ≡ None
 
 -- what a status says of what a call was given, of the trace that was read, and of what the run left
 abbrev pub Says : Given → Option Value → Left → Status → Type 0
@@ -138,24 +148,25 @@ Says g t l status.WriteFault = ⊥
 Says g t l (status.Broken r n) = ⊥
 Says g t l (status.Torn x) = ⊥
 Says g t l status.DeviceLost = AreGood g.words × OfTrace (IsRunOf g.told l status.DeviceLost) t
-Says g t l status.Memory = IsUntouched l ⊎ (AreGood g.words × OfTrace (IsRunOf g.told l status.Memory) t)
+Says g t l status.Memory = IsStopped t l ⊎ (AreGood g.words × OfTrace (IsRunOf g.told l status.Memory) t)
 
 -- what a run left, by its parts
-abbrev pub left_by : Log → (ℕ × ℕ) → (ℕ × ℕ) → VkState → Outcome → Left
-left_by log faults free device o = record {
+abbrev pub left_by : Log → (ℕ × ℕ) → (ℕ × ℕ) → ℕ → Option DevicePlan → VkState → Outcome → Left
+left_by log faults rest offered plan device o = record {
   faults = faults;
-  rest = free.0;
+  rest = rest;
   choices = log.choices.items;
   taken = log.taken.items;
   history = o.history;
   fences = o.fences;
   device = device;
-  offered = free.1;
+  offered = offered;
+  plan = plan;
 }
 
 -- the world of a trace was run, or was not for want of memory
 abbrev pub RanTrace : Value → Option Value → Left → Status → Type 0
-RanTrace v None l s = (s ≡ status.Memory) × IsUntouched l
+RanTrace v None l s = (s ≡ status.Memory) × IsStopped None l
 RanTrace v (Some x) l s = (x ≡ v) × Ran (world_of_value v) l s
 
 -- the status of a run that a fault ended
@@ -242,3 +253,41 @@ IsRefusalAt p (status.Broken r n) = ⊥
 IsRefusalAt p (status.Torn x) = ⊥
 IsRefusalAt p status.DeviceLost = ⊥
 IsRefusalAt p status.Memory = Unit {0}
+
+-- a call that ends before a trace is run
+abbrev pub IsUnrun : Status → Type 0
+IsUnrun status.Done = ⊥
+IsUnrun status.Stalled = ⊥
+IsUnrun (status.Usage n) = Unit {0}
+IsUnrun (status.Refused n why) = Unit {0}
+IsUnrun status.ReadFault = Unit {0}
+IsUnrun status.WriteFault = ⊥
+IsUnrun (status.Broken r n) = ⊥
+IsUnrun (status.Torn x) = ⊥
+IsUnrun status.DeviceLost = ⊥
+IsUnrun status.Memory = ⊥
+
+-- a trace is given: the words are of the form of the program, and the source's text is in the grammar where the source
+-- tells it
+pub record IsTraceGiven (words : List (List ℕ)) (told : Option (List ℕ)) : Type 0 where
+  pub good : AreGood words
+  pub says : IfSome told (λ all. (v : Value) × (value_of all ≡ Ok v))
+
+-- no fault is told in a call: the counts of faults of the source, of the sink and of the device have not risen
+pub record IsFaultless (source sink device : ℕ × ℕ) : Type 0 where
+  pub reads : HasRisen source.0 source.1 → ⊥
+  pub writes : HasRisen sink.0 sink.1 → ⊥
+  pub runs : HasRisen device.0 device.1 → ⊥
+
+-- the status where a trace is given and no fault is told
+abbrev pub IsComplete : Status → Type 0
+IsComplete status.Done = Unit {0}
+IsComplete status.Stalled = Unit {0}
+IsComplete (status.Usage n) = ⊥
+IsComplete (status.Refused n why) = ⊥
+IsComplete status.ReadFault = ⊥
+IsComplete status.WriteFault = ⊥
+IsComplete (status.Broken r n) = ⊥
+IsComplete (status.Torn x) = ⊥
+IsComplete status.DeviceLost = ⊥
+IsComplete status.Memory = Unit {0}

@@ -1,26 +1,22 @@
 -- A step that a choice names, and what a refused one leaves.
-use Rattle.std.specs.Prelude.{ℕ, ◌≡◌, ◌<◌, ◌≤◌, ◌+◌, ◌⊎◌, List, [], ◌∷◌, ◌++◌, length, take}
+use Rattle.std.specs.Prelude.{ℕ, ◌≡◌, ◌+◌, ◌⊎◌, List, [], ◌∷◌, ◌++◌, length, take}
 use Rattle.dx_base.specs.declared.steps.Step.{Step}
 use Rattle.d3d_machine.specs.declared.world.World.{World}
 use Rattle.d3d_machine.specs.declared.events.Event.{Event}
 use Rattle.vk_port.specs.VkState.{VkState}
-use Rattle.sys_core.specs.Goes.{SysState, state_of, Chooses, Goes, Stays}
+use Rattle.sys_core.specs.Goes.{SysState, state_of, Chooses, Goes, WasTaken, Stays}
 use Rattle.sys_core.specs.Keeps.{SysView}
 use Rattle.sys_core.specs.Opened.{opened}
-use Rattle.sys_core.specs.Work.{work}
+use Rattle.sys_core.specs.StepCount.{AreCounted}
 use Rattle.trace_runner.specs.declared.log.Log.{Log}
 
 -- one more choice was drawn, and the step that it names was taken
 pub record TookStep {D : Type 0} (state : D → VkState) (rest_of : D → ℕ) (s u : SysView D) (before after : Log) : Type 0 where
   pub choice : ℕ
-  pub step : Step
-  pub world : u.world ≡ s.world
   pub chooses : Chooses s.world (rest_of s.device) choice (state_of state s) (state_of state u)
-  pub named : chooses.step ≡ step
+  pub taken : WasTaken state rest_of chooses.step s u
   pub choices : after.choices.items ≡ before.choices.items ++ choice ∷ []
-  pub taken : after.taken.items ≡ before.taken.items ++ step ∷ []
-  pub rest : rest_of u.device ≤ rest_of s.device
-  pub falls : work u.world u.history (state u.device) + rest_of u.device < work s.world s.history (state s.device) + rest_of s.device
+  pub steps : after.taken.items ≡ before.taken.items ++ chooses.step ∷ []
 
 -- no step was taken; a choice may have been drawn
 pub record TookNone {D : Type 0} (state : D → VkState) (rest_of : D → ℕ) (s u : SysView D) (before after : Log) : Type 0 where
@@ -33,7 +29,8 @@ abbrev pub opening : World → SysState
 opening w = record { history = []; device = opened w }
 
 -- the first choices, as many as steps were taken, lead from the opening state by these steps, on a device that had so many
--- free steps left to take; one choice more may have been drawn
-pub record Went (w : World) (rest : ℕ) (choices : List ℕ) (taken : List Step) (h : List Event) (v : VkState) : Type 0 where
-  pub goes : Goes w rest (opening w) (take (length taken) choices) taken (record { history = h; device = v })
+-- free steps left to take and has so many now; one choice more may have been drawn; and the steps are counted
+pub record Went (w : World) (rest left : ℕ) (choices : List ℕ) (taken : List Step) (h : List Event) (v : VkState) : Type 0 where
+  pub goes : Goes w rest (opening w) (take (length taken) choices) taken left (record { history = h; device = v })
   pub drawn : (length choices ≡ length taken) ⊎ (length choices ≡ length taken + 1)
+  pub counted : AreCounted w rest left (length taken) h v

@@ -3,7 +3,7 @@
 ghost use Rattle.trace_runner.specs.Laws.{RoundsAreCalm, RoundsGoOn, TextsOfRoundsAreRead, TracesOfRoundsHaveTheirWorlds};
 
 /// The world of a trace of rounds, with the objects of the first example, is a world of rounds.
-#[tactic(auto, unfolding(trace_text::specs::WorldOf::world_of_value, trace_text::specs::WorldOf::objects_of))]
+#[tactic(auto, unfolding(trace_text::specs::WorldOf::world_of_value, trace_text::specs::WorldOf::objects_from))]
 pub fn traces_of_rounds_have_their_worlds()
     ensures { TracesOfRoundsHaveTheirWorlds }
 {}

@@ -1,15 +1,15 @@
 //! The whole of a program's run: it reads a trace, runs it by choices, and writes the output.
 
-ghost use Rattle.std.specs.Prelude.{ℕ, ◌≡◌, ◌⊎◌, [], Option, length, map, string_bytes, None, Some, IfOk, IfErr, IfSome, OnOk, Ok, Err};
+ghost use Rattle.std.specs.Prelude.{ℕ, ◌≡◌, ◌⊎◌, [], Option, length, map, string_bytes, None, Some, IsSome, IfOk, IfErr, IfSome, OnOk, Ok, Err};
 ghost use Rattle.std.specs.Option.{option_copied, option_map};
-ghost use Rattle.d3d_machine.specs.World.{IsWorld};
+ghost use Rattle.d3d_machine.specs.World.{IsWorld, HasOneQueueAtMost};
 ghost use Rattle.d3d_machine.specs.Play.{state_after};
 ghost use Rattle.sys_core.specs.Ahead.{IsWhole};
 ghost use Rattle.sys_core.specs.Keeps.{IsSystem};
 ghost use Rattle.sys_core.specs.Over.{IsOver};
 ghost use Rattle.sys_core.specs.Serving.{HasCause, HasFaultCause};
 ghost use Rattle.sys_core.specs.declared.over.Over.TheVariants as over;
-ghost use Rattle.trace_runner.specs.Report.{Ends, IsReport, IsWritten, Ran, Says, Writes, IsUsageAt, IsRefusalAt, ended_by, status_at, is_shown, refused_in, left_by, RanTrace};
+ghost use Rattle.trace_runner.specs.Report.{Ends, IsReport, IsWritten, Ran, Says, Writes, IsUsageAt, IsRefusalAt, IsUnrun, IsTraceGiven, IsFaultless, IsComplete, ended_by, status_at, is_shown, refused_in, left_by, RanTrace};
 ghost use Rattle.trace_runner.specs.Steps.{Went};
 ghost use Rattle.trace_runner.specs.Words.{said_by, number_said};
 ghost use Rattle.trace_text.specs.Output.{output_of};
@@ -19,7 +19,7 @@ ghost use Rattle.trace_text.specs.WorldOf.{world_of_value};
 ghost use Rattle.trace_text.specs.declared.outcome.Outcome.{Outcome as WhatCame};
 ghost use Rattle.trace_text.specs.Values.{Value};
 ghost use Rattle.trace_text.specs.declared.status.Status.TheVariants as status;
-ghost use Rattle.trace_text.specs.declared.status.Verdict.TheVariants as verdict;
+ghost use Rattle.d3d_judge.specs.declared.rules.Verdict.TheVariants as verdict;
 
 use crate::log::Log;
 use crate::steps::take_steps;
@@ -102,16 +102,17 @@ fn finish<D: VkDevice>(alloc: Global, sys: Sys<D>, end: Result<Over, SysFault>, 
     requires last { IfOk end (λ o. (o ≡ over.Done) ⊎ (o ≡ over.Stalled)) }
     requires equal { OnOk end (length log.now.choices.items ≡ length log.now.taken.items) }
     ensures { (before rest : ℕ) → HasCause before (D.faults sys.device) end →
-        Went sys.world rest log.now.choices.items log.now.taken.items sys.history (D.state sys.device) →
+        Went sys.world rest (D.rest_of sys.device) log.now.choices.items log.now.taken.items sys.history (D.state sys.device) →
         Ran sys.world (record {
           faults = (before, D.faults result.device);
-          rest = rest;
+          rest = (rest, D.rest_of result.device);
           choices = log.now.choices.items;
           taken = log.now.taken.items;
           history = result.history.items;
           fences = result.fences;
           device = D.state result.device;
           offered = D.offered result.device;
+          plan = D.plan_of result.device;
         }) result.status }
 {
     let _choices = log.choices.len();
@@ -134,6 +135,7 @@ fn run_world<D: VkDevice, C: Chooser>(
     log: &mut Log,
 ) -> Run<D>
     requires world { IsWorld world }
+    requires queues { HasOneQueueAtMost world }
     requires no_plan { D.plan_of device ≡ None }
     requires new { (D.state device).journal ≡ [] }
     requires given { C.given choices.old ≡ [] }
@@ -141,13 +143,14 @@ fn run_world<D: VkDevice, C: Chooser>(
     requires taken { log.old.taken.items ≡ [] }
     ensures ran { Ran world (record {
       faults = (D.faults device, D.faults result.device);
-      rest = D.rest_of device;
+      rest = (D.rest_of device, D.rest_of result.device);
       choices = log.new.choices.items;
       taken = log.new.taken.items;
       history = result.history.items;
       fences = result.fences;
       device = D.state result.device;
       offered = D.offered result.device;
+      plan = D.plan_of result.device;
     }) result.status }
     ensures given { C.given choices.new ≡ log.new.choices.items }
     ensures started { C.started choices.new ≡ C.started choices.old }
@@ -199,7 +202,7 @@ fn run_trace<D: VkDevice, C: Chooser>(
     requires no_plan { D.plan_of device ≡ None }
     requires new { (D.state device).journal ≡ [] }
     requires given { C.given choices.old ≡ [] }
-    ensures ran { RanTrace (seen trace) (option_map seen result.trace) (left_by result.log (D.faults device, D.faults result.device) (D.rest_of device, D.offered result.device) (D.state result.device) result.outcome) result.outcome.status }
+    ensures ran { RanTrace (seen trace) (option_map seen result.trace) (left_by result.log (D.faults device, D.faults result.device) (D.rest_of device, D.rest_of result.device) (D.offered result.device) (D.plan_of result.device) (D.state result.device) result.outcome) result.outcome.status }
     ensures shown { result.outcome.shown ≡ shown }
     ensures refused { result.outcome.refused ≡ refused_in (option_map seen result.trace) }
     ensures given { C.given choices.new ≡ result.log.choices.items }
@@ -245,9 +248,11 @@ fn ran<S: Source, D: VkDevice, C: Chooser>(
       words = map string_bytes words.now;
       told = S.left source.old;
       source = (S.faults source.old, S.faults source.new);
-    }) (option_map seen result.trace) (left_by result.log (D.faults device, D.faults result.device) (D.rest_of device, D.offered result.device) (D.state result.device) result.outcome) result.outcome.status }
+    }) (option_map seen result.trace) (left_by result.log (D.faults device, D.faults result.device) (D.rest_of device, D.rest_of result.device) (D.offered result.device) (D.plan_of result.device) (D.state result.device) result.outcome) result.outcome.status }
     ensures unread { IfErr (said_by (map string_bytes words.now)) (λ _. source.new ≡ source.old) }
     ensures undrawn { IfErr (said_by (map string_bytes words.now)) (λ _. choices.new ≡ choices.old) }
+    ensures unrun { IsUnrun result.outcome.status → result.device ≡ device }
+    ensures not_given { (IsTraceGiven (map string_bytes words.now) (S.left source.old) → ⊥) → result.device ≡ device }
     ensures shown { result.outcome.shown ≡ is_shown (said_by (map string_bytes words.now)) }
     ensures refused { result.outcome.refused ≡ refused_in (option_map seen result.trace) }
     ensures started { IfOk (said_by (map string_bytes words.now)) (λ said. C.started choices.new ≡ Some (number_said said)) }
@@ -351,16 +356,21 @@ pub fn simulate<S: Source, K: Sink, D: VkDevice, C: Chooser>(
       source = (S.faults source.old, S.faults source.new);
     }) (K.faults sink.old, K.faults sink.new) (K.held sink.old) (K.held sink.new) (λ fences. record {
       faults = (D.faults device, D.faults result.device);
-      rest = D.rest_of device;
+      rest = (D.rest_of device, D.rest_of result.device);
       choices = result.choices.items;
       taken = result.taken.items;
       history = result.history.items;
       fences = fences;
       device = D.state result.device;
       offered = D.offered result.device;
+      plan = D.plan_of result.device;
     }) result.status }
     ensures unread { IfErr (said_by (map string_bytes words.now)) (λ _. source.new ≡ source.old) }
     ensures undrawn { IfErr (said_by (map string_bytes words.now)) (λ _. choices.new ≡ choices.old) }
+    ensures unrun { IsUnrun result.status → result.device ≡ device }
+    ensures not_given { (IsTraceGiven (map string_bytes words.now) (S.left source.old) → ⊥) → result.device ≡ device }
+    ensures complete { IsTraceGiven (map string_bytes words.now) (S.left source.old) → IsSome (S.left source.old) →
+        IsFaultless (S.faults source.old, S.faults source.new) (K.faults sink.old, K.faults sink.new) (D.faults device, D.faults result.device) → IsComplete result.status }
     ensures usage { IfErr (said_by (map string_bytes words.now)) (λ k. IsUsageAt k result.status) }
     ensures refused { IfOk (said_by (map string_bytes words.now)) (λ _. IfSome (S.left source.old) (λ all. IfErr (value_of all) (λ p. IsRefusalAt p result.status))) }
     ensures started { IfOk (said_by (map string_bytes words.now)) (λ said. C.started choices.new ≡ Some (number_said said)) }

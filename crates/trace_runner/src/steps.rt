@@ -76,8 +76,8 @@ pub(crate) fn take_steps<D: VkDevice, C: Chooser>(
     ensures over { IfOk result (λ o. IsOver sys.new.world sys.new.history (D.state sys.new.device) (D.offered sys.new.device) o) }
     ensures ended { IfOk result (λ o. (o ≡ over.Done) ⊎ (o ≡ over.Stalled)) }
     ensures equal { OnOk result (length log.new.choices.items ≡ length log.new.taken.items) }
-    ensures went { (rest : ℕ) → D.rest_of sys.old.device ≤ rest → Went sys.old.world rest log.old.choices.items log.old.taken.items sys.old.history (D.state sys.old.device) →
-        Went sys.new.world rest log.new.choices.items log.new.taken.items sys.new.history (D.state sys.new.device) }
+    ensures went { (rest : ℕ) → Went sys.old.world rest (D.rest_of sys.old.device) log.old.choices.items log.old.taken.items sys.old.history (D.state sys.old.device) →
+        Went sys.new.world rest (D.rest_of sys.new.device) log.new.choices.items log.new.taken.items sys.new.history (D.state sys.new.device) }
     ensures world { sys.new.world ≡ sys.old.world }
     ensures system { IsSystem sys.new.world sys.new.history (D.state sys.new.device) }
     ensures whole { IsWhole sys.new.world sys.new.history (D.state sys.new.device) }

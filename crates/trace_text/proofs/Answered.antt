@@ -1,9 +1,6 @@
 -- The lines of answered calls, one more event at a time.
-use Rattle.std.proofs.Common.{add-zero, add-one, ◌<◌, drop, drop-cons, get_or, flat_map, ℕ, ◌≡◌, ◌+◌, List, [], ◌∷◌, ◌++◌, length, refl, arith, append_assoc}
-use Rattle.std.proofs.lemmas.Grind.{flat_map-append}
+use Rattle.trace_text.proofs.Vocabulary.{add-zero, add-one, ◌<◌, drop, drop-cons, get_or, flat_map, ℕ, ◌≡◌, ◌+◌, List, [], ◌∷◌, ◌++◌, length, refl, arith, append_assoc, flat_map-append, Event, line_text}
 use Rattle.d3d_machine.specs.declared.calls.Reply.{Reply}
-use Rattle.d3d_machine.specs.declared.events.Event.{Event}
-use Rattle.line_forms.specs.Lines.{line_text}
 use Rattle.trace_text.specs.Text.{answer_lines, replies_by, replies_in}
 
 -- the lines of answered calls, then those of later ones

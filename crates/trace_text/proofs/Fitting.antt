@@ -1,49 +1,12 @@
 -- A line is taken whose values, as they are printed, are read back.
-use Rattle.std.proofs.Common.{ℕ, ◌≡◌, ◌<◌, ◌≤◌, ◌^◌, ◌==◌, ◌&&◌, ◌||◌, ◌∙◌, not, nat_le, nat_lt, Bool, true, false, List, [], ◌∷◌, ◌++◌, length, Some, None, Ok, refl, sym, ap, subst, arith, append_assoc}
-use Rattle.std.specs.List.{AllByRecursion, list_all}
-use Rattle.std.proofs.lemmas.Bool.{and_parts, and_from, le-leb, ltb-true}
-use Rattle.std.proofs.lemmas.Bool.Decides.{nat_tests}
-use Rattle.d3d_machine.specs.declared.calls.Call.{Call}
-use Rattle.d3d_machine.specs.World.{is_named}
-use Rattle.trace_words.specs.Lines.{words_of, is_plain, is_plain_byte}
-use Rattle.trace_words.specs.Words.{is_name, is_letter, is_name_byte}
-use Rattle.line_forms.specs.declared.form.Line.{Line}
-use Rattle.line_forms.specs.declared.kind.Kind.{Kind}
+use Rattle.trace_text.proofs.Vocabulary.{ℕ, ◌≡◌, ◌<◌, ◌≤◌, ◌^◌, ◌==◌, ◌&&◌, ◌||◌, ◌∙◌, not, nat_le, nat_lt, Bool, true, false, List, [], ◌∷◌, ◌++◌, length, Some, None, Ok, refl, sym, ap, subst, arith, append_assoc, AllByRecursion, list_all, and_parts, and_from, leb-true, le-leb, ltb-true, nat_tests, Call, is_named, words_of, is_plain, is_plain_byte, is_name, is_letter, is_name_byte, Line, Kind, form_for, AllGood, IsGoodLine, shaped_from, shaped_line, rest_of_line, line_text, Place, Word, Name, NewName, Number, DataWord, FlagWord, Set, Choice, AllOr, AllOrNumber, Row, Known, part_texts, rest_texts, line_words, spaced, joined, text_of, Naming, read_row, is_sound_line, is_named_line, found_in, prints_back, line_of, line_is, line_again, IsPlainWord, ArePlain, words_again, are_words, plain_line, line_plain, line_short, pass, line_from, Class, Form, Item, Header, Declares, Starts, Calls, Ends, Declared, Reading, Formed, item_formed, item_words, item_text, form_row, forms, class_of, count_of, KnownNames, names_of_kind, known_names, known_of, name_at, is_later, is_second, is_misplaced, is_header, fault_of_place, is_over, with_item, object_named, naming_of, is_sound_object, is_sound_call, is_skipped, with_line, Names, same_kind, number_named, objects_of}
 use Rattle.line_forms.specs.declared.kind.Kind.TheVariants as kind
 use Rattle.line_forms.specs.declared.part.PartValue.{PartValue}
-use Rattle.line_forms.specs.Finding.{form_for}
-use Rattle.line_forms.specs.Laws.{AllGood, IsGoodLine, shaped_from, shaped_line}
-use Rattle.line_forms.specs.Lines.{rest_of_line, line_text}
-use Rattle.line_forms.specs.Parts.{Place, Word, Name, NewName, Number, DataWord, FlagWord, Set, Choice, AllOr, AllOrNumber, Row}
-use Rattle.line_forms.specs.Printing.{Known, part_texts, rest_texts, line_words, spaced, joined, text_of}
-use Rattle.line_forms.specs.Reading.{Naming, read_row}
-use Rattle.line_forms.specs.Sound.{is_sound_line, is_named_line}
-use Rattle.line_forms.proofs.Apart.{found_in}
-use Rattle.line_forms.proofs.Good.{prints_back, reads_again}
-use Rattle.line_forms.proofs.PlainWords.{line_of, line_is, IsPlainWord, ArePlain, words_again, are_words, plain_line}
-use Rattle.line_forms.proofs.ShortLines.{line_plain, line_short}
-use Rattle.line_forms.proofs.Tests.{pass, line_from}
-use Rattle.trace_text.specs.declared.form.Class.{Class}
-use Rattle.trace_text.specs.declared.form.Form.{Form}
-use Rattle.trace_text.specs.declared.item.Item.{Item}
-use Rattle.trace_text.specs.declared.item.Item.TheVariants.{Header, Declares, Starts, Calls, Ends}
-use Rattle.trace_text.specs.declared.object.Declared.{Declared}
-use Rattle.trace_text.specs.declared.reading.Reading.{Reading}
-use Rattle.trace_text.specs.Formed.{Formed, item_formed, item_words, item_text}
-use Rattle.trace_text.specs.Forms.{form_row, forms, class_of}
-use Rattle.trace_text.specs.Kinds.{count_of}
-use Rattle.trace_text.specs.Known.{KnownNames, known_names, known_of}
-use Rattle.trace_text.specs.Later.{is_later}
-use Rattle.trace_text.specs.Reading.{is_second, is_misplaced, is_header, fault_of_place, is_over, with_item, object_named, naming_of}
-use Rattle.trace_text.specs.Sound.{is_sound_object, is_sound_call}
-use Rattle.trace_text.specs.Texts.{is_skipped, with_line}
-use Rattle.trace_text.specs.Things.{Names}
-use Rattle.trace_text.specs.WorldOf.{objects_of}
 use Rattle.trace_text.proofs.NamesBack.{AreNamed}
+use Rattle.trace_text.proofs.Naming.{names_in}
 use Rattle.trace_text.proofs.Own.{item_news, item_class, is_call, own, own_line, counts_in, forms_apart, is_spoken, fine}
 use Rattle.trace_text.proofs.Says.{is_new, new_back, number_back}
-use Rattle.trace_text.proofs.Sound.{IsKept, known_in, are_called, short_names, stands, read_timely}
-use Rattle.trace_text.proofs.SoundWorlds.{queues_are, fences_are, resources_are, allocators_are, lists_are}
+use Rattle.trace_text.proofs.Sound.{IsKept, known_in, counts_are, are_called, short_names}
 use Rattle.trace_text.proofs.Taking.{Takes, TakesWords, item_reads, item_read_back, taken_line}
 
 -- the line of an item
@@ -157,50 +120,34 @@ item_taken r known i fits short =
       };
     })
 
--- a line that was taken fits as it is printed
-pub fits_again : (r s : Reading) (line : List ℕ) → IsKept r → (t : Takes r line s) → Fits r (known_in r) t.others.item
-fits_again r s line kept t =
-    let taken = t.others in
-    let i = taken.item in
-    let row = form_row (item_formed i).form in
-    let read = item_reads r.names taken.form t.ws i taken.means in
-    let class_is : class_of taken.form ≡ item_class i = ap class_of read.form_is ∙ (own i).class_is in
-    record {
-      open_yet = t.open_yet;
-      place = subst (λ c. fault_of_place r c ≡ None) class_is taken.in_place;
-      timely = (own i).timely (known_in r) (read_timely r kept t.ws taken.in_time i read.reads);
-      good = reads_again.good (naming_of r.names) (known_of (known_in r)) (are_called r.names r.declared kept.placed) row t.ws (item_formed i).line read.reads;
-      within = taken.within;
-    }
-
--- and it is as short
-pub short_again : (r s : Reading) (line : List ℕ) → IsKept r → (t : Takes r line s) → length (line_of t.ws) ≤ 4096 →
-    length (printed_line (known_in r) t.others.item) ≤ 4096
-short_again r s line kept t short =
+-- a line that was taken is printed as short
+pub short_again : (r s : Reading) (line : List ℕ) → IsKept r → (t : Takes r line s) → length (printed_line (known_in r) t.others.item) ≤ 4096
+unfolding is_plain
+short_again r s line kept t =
     let i = t.others.item in
     let read = item_reads r.names t.others.form t.ws i t.others.means in
-    line_short (naming_of r.names) (known_of (known_in r)) (are_called r.names r.declared kept.placed) (short_names r.names)
-    (form_row (item_formed i).form) t.ws (item_formed i).line (fine i).plain (fine i).short read.reads short
+    let short = leb-true (length line) 4096 (and_parts (nat_le (length line) 4096) (list_all is_plain_byte line) t.plain).0 in
+    line_short (naming_of r.names) (known_of (known_in r)) (short_names r.names) (are_called r.names r.declared kept.placed)
+    (form_row (item_formed i).form) t.ws (item_formed i).line (fine i).plain (fine i).short read.reads
+    (subst (λ l. length l ≤ 4096) (sym (line_again line t.ws t.words)) short)
 
 -- the name of an object is read as its number
+called_object : (r : Reading) (ss : List (List Call)) → AreNamed r.names r.declared → (k : Kind) (i : ℕ) → same_kind k kind.Thread ≡ false →
+    nat_lt i (counts_in (record (objects_of r.declared) { scripts = ss }) k) ≡ true →
+    number_named k r.names (name_at (names_of_kind k (names_in r.names) r.declared) i) ≡ Ok i
+called_object r ss named k i apart h =
+    let below = ltb-true i (counts_in (record (objects_of r.declared) { scripts = ss }) k) h in
+    number_back r.names k i (name_at (names_of_kind k (names_in r.names) r.declared) i)
+    (named k i (omega (arith, counts_are r.declared ss k apart, below)))
+
 called : (r : Reading) (ss : List (List Call)) → AreNamed r.names r.declared → (k : Kind) (i : ℕ) →
     nat_lt i (counts_in (record (objects_of r.declared) { scripts = ss }) k) ≡ true →
     object_named r.names k (known_of (known_in r) k i) ≡ Ok i
-called r ss named kind.Queue i h =
-    number_back r.names kind.Queue i (known_of (known_in r) kind.Queue i)
-    (named kind.Queue i (omega (arith, queues_are r.declared, ltb-true i (length (objects_of r.declared).queues) h)))
-called r ss named kind.Fence i h =
-    number_back r.names kind.Fence i (known_of (known_in r) kind.Fence i)
-    (named kind.Fence i (omega (arith, fences_are r.declared, ltb-true i (length (objects_of r.declared).fences) h)))
-called r ss named kind.Resource i h =
-    number_back r.names kind.Resource i (known_of (known_in r) kind.Resource i)
-    (named kind.Resource i (omega (arith, resources_are r.declared, ltb-true i (length (objects_of r.declared).resources) h)))
-called r ss named kind.Allocator i h =
-    number_back r.names kind.Allocator i (known_of (known_in r) kind.Allocator i)
-    (named kind.Allocator i (omega (arith, allocators_are r.declared, ltb-true i (length (objects_of r.declared).allocators) h)))
-called r ss named kind.List i h =
-    number_back r.names kind.List i (known_of (known_in r) kind.List i)
-    (named kind.List i (omega (arith, lists_are r.declared, ltb-true i (length (objects_of r.declared).lists) h)))
+called r ss named kind.Queue i h = called_object r ss named kind.Queue i refl h
+called r ss named kind.Fence i h = called_object r ss named kind.Fence i refl h
+called r ss named kind.Resource i h = called_object r ss named kind.Resource i refl h
+called r ss named kind.Allocator i h = called_object r ss named kind.Allocator i refl h
+called r ss named kind.List i h = called_object r ss named kind.List i refl h
 called r ss named kind.Thread i h = absurd (omega (arith, ltb-true i 0 h))
 
 -- an item's values are of their parts' kinds

@@ -1,20 +1,8 @@
 -- What is read of a text, and the lines of the text.
-use Rattle.std.proofs.Common.{ℕ, ◌≡◌, ◌≤◌, ◌+◌, ◌==◌, ◌&&◌, ◌∙◌, eqb, nat_lt, nat_le, Bool, true, false, List, [], ◌∷◌, ◌++◌, length, get_or, Result, Ok, Err, refl, sym, ap, subst, arith, length-append, append_assoc, if◌then◌else◌}
-use Rattle.std.specs.List.{All, AllByRecursion, list_all, slice_split, join_with_byte}
-use Rattle.std.proofs.lemmas.Bool.{and_parts, eqb-true, ltb-false, le-ltb}
-use Rattle.std.proofs.lemmas.Bool.Decides.{nat_tests}
-use Rattle.std.proofs.lemmas.List.{nil_from_length}
-use Rattle.std.proofs.lemmas.List.Splits.{slice_split_at, join_with_byte-slice_split}
-use Rattle.trace_words.specs.Lines.{pieces_of, is_plain, is_plain_byte}
-use Rattle.trace_text.specs.declared.reading.Reading.{Reading}
-use Rattle.line_forms.specs.declared.cause.Cause.{Cause}
+use Rattle.trace_text.proofs.Vocabulary.{ℕ, ◌≡◌, ◌≤◌, ◌+◌, ◌==◌, ◌&&◌, ◌∙◌, eqb, nat_lt, nat_le, Bool, true, false, List, [], ◌∷◌, ◌++◌, length, map, Result, Ok, Err, refl, sym, ap, subst, arith, length-append, append_assoc, if◌then◌else◌, All, AllByRecursion, list_all, slice_split, join_with_byte, and_parts, ltb-false, le-ltb, nat_tests, slice_split_at, join_with_byte-slice_split, pieces_of, is_plain, is_plain_byte, Call, Declared, Reading, Cause, text_of_lines, IsTextOf, opening, and_then, with_line, with_last, sized, pieces_from, reading_of, Value, value_in, valued, value_of, with_lines, IsWritten, apart_from}
 use Rattle.line_forms.specs.declared.cause.Cause.TheVariants as cause
-use Rattle.trace_text.specs.Grammar.{text_of_lines, IsTextOf}
-use Rattle.trace_text.specs.Reading.{opening, and_then}
-use Rattle.trace_text.specs.Texts.{with_line, with_last, sized, pieces_from, reading_of}
-use Rattle.trace_text.specs.Values.{Value, valued, value_of, with_lines}
+use Rattle.trace_text.proofs.Passing.{stopped}
 use Rattle.trace_text.proofs.TextSteps.{stepped, HasFirst}
-use Rattle.line_forms.proofs.PlainWords.{apart_from}
 use Rattle.trace_text.proofs.Taking.{line_passes}
 use Rattle.trace_text.proofs.Written.{at_line_ok, sized_ok, last_ok, cons_read}
 
@@ -23,19 +11,17 @@ plain_feeds : (b : ℕ) → is_plain_byte b ≡ true → eqb b 10 ≡ false
 plain_feeds b h = grind (arith, nat_tests)
 
 -- the pieces of a text whose first line is of plain bytes
-pub pieces_more : (line : List ℕ) (lines : List (List ℕ)) → list_all is_plain_byte line ≡ true →
+pieces_more : (line : List ℕ) (lines : List (List ℕ)) → list_all is_plain_byte line ≡ true →
     pieces_of (text_of_lines (line ∷ lines)) ≡ line ∷ pieces_of (text_of_lines lines)
 pieces_more line lines plain =
     ap (slice_split (λ b. eqb b 10)) (append_assoc line (10 ∷ []) (text_of_lines lines))
     ∙ slice_split_at (λ b. eqb b 10) line 10 (text_of_lines lines) (apart_from 10 is_plain_byte line plain_feeds plain) refl
 
 -- the pieces of a text of lines
-pub pieces_back : (lines : List (List ℕ)) → AllByRecursion (λ line. is_plain line ≡ true) lines → pieces_of (text_of_lines lines) ≡ lines ++ [] ∷ []
-unfolding is_plain
+pub pieces_back : (lines : List (List ℕ)) → AllByRecursion (λ line. list_all is_plain_byte line ≡ true) lines →
+    pieces_of (text_of_lines lines) ≡ lines ++ [] ∷ []
 pieces_back [] all = refl
-pieces_back (line ∷ lines) all =
-    let plain = (and_parts (nat_le (length line) 4096) (list_all is_plain_byte line) all.0).1 in
-    pieces_more line lines plain ∙ ap (λ more. line ∷ more) (pieces_back lines all.1)
+pieces_back (line ∷ lines) all = pieces_more line lines all.0 ∙ ap (λ more. line ∷ more) (pieces_back lines all.1)
 
 -- a text whose last line is followed by nothing
 join_lines : (lines : List (List ℕ)) → join_with_byte 10 (lines ++ [] ∷ []) ≡ text_of_lines lines
@@ -52,26 +38,12 @@ length_line line lines =
 -- what fits
 sized_small : (end : ℕ) (found : Result Reading Cause) (s : Reading) → sized end found ≡ Ok s → end ≤ 16777216
 unfolding sized
-sized_small end found s e = by_test (nat_lt 16777216 end) refl e
-  where
-    by_test : (t : Bool) → nat_lt 16777216 end ≡ t → (if t then Err cause.Size else found) ≡ Ok s → end ≤ 16777216
-    by_test true is e = cc
-    by_test false is e = ltb-false 16777216 end is
+sized_small end found s e = ltb-false 16777216 end (stopped (nat_lt 16777216 end) cause.Size found s e).0
 
 -- what fits is found
 sized_is : (end : ℕ) (found : Result Reading Cause) → end ≤ 16777216 → sized end found ≡ found
 unfolding sized
 sized_is end found small = rw (le-ltb 16777216 end small) refl
-
--- nothing stands behind the last line feed
-last_empty : (r s : Reading) (piece : List ℕ) → with_last r piece ≡ Ok s → piece ≡ []
-unfolding with_last
-last_empty r s piece e = by_tests (length piece == 0 && r.ended) (is_plain piece) refl e
-  where
-    by_tests : (t u : Bool) → (length piece == 0 && r.ended) ≡ t → (if t then Ok r else (if u then Err cause.Cut else Err cause.Line)) ≡ Ok s → piece ≡ []
-    by_tests true u is e = nil_from_length piece (eqb-true (length piece) 0 (and_parts (length piece == 0) r.ended is).0)
-    by_tests false true is e = cc
-    by_tests false false is e = cc
 
 -- pieces that were read are lines, and then nothing
 record AreLines (pieces : List (List ℕ)) (at : ℕ) (r s : Reading) : Type 0 where
@@ -93,7 +65,7 @@ pieces_are (piece ∷ []) n at r s e =
     let small = sized_small (at + length piece) (with_last r piece) follows.between follows.first in
     record {
       lines = [];
-      are = ap (λ p. p ∷ []) (last_empty r follows.between piece found);
+      are = ap (λ p. p ∷ []) ends.empty;
       reads = rw (ends.same, same) refl;
       ended = rw (← same) ends.ended;
       short = omega (arith, small);
@@ -110,6 +82,19 @@ pieces_are (piece ∷ next ∷ more) n at r s e =
       ended = others.ended;
       short = omega (arith, length_line piece others.lines, others.short);
     }
+
+-- what is read of a text is a value that lines write
+pub reading_is_written : (text : List ℕ) (r : Reading) → reading_of text ≡ Ok r → IsWritten (value_in r)
+unfolding reading_of
+reading_is_written text r e =
+    let all = pieces_are (pieces_of text) 1 0 opening r e in
+    record { lines = all.lines; written = record { reading = r; reads = all.reads; ended = all.ended; says = refl } }
+
+-- a value of those parts is written, where what was read has them
+pub parts_are_written : (text : List ℕ) (r : Reading) (names : List (List ℕ)) (declared : List Declared) (scripts : List (List Call)) →
+    reading_of text ≡ Ok r → names ≡ map (λ e. e.0) r.names → declared ≡ r.declared → scripts ≡ r.scripts →
+    IsWritten (record { names = names; declared = declared; scripts = scripts })
+parts_are_written text r names declared scripts reads a b c = rw (a, b, c) (reading_is_written text r reads)
 
 -- what is read of a text is what the text writes
 pub read_writes : (text : List ℕ) (v : Value) → value_of text ≡ Ok v → IsTextOf text v
@@ -129,17 +114,23 @@ read_writes text v e = by_found (pieces_from 1 0 opening (pieces_of text)) refl 
           short = omega (arith, ap length text_is, all.short);
         }
 
--- lines that were read are plain
-pub lines_plain : (lines : List (List ℕ)) (r s : Reading) → with_lines r lines ≡ Ok s → AllByRecursion (λ line. is_plain line ≡ true) lines
-unfolding with_lines
+-- plain lines are of plain bytes
+pub bytes_plain : (lines : List (List ℕ)) → AllByRecursion (λ line. is_plain line ≡ true) lines → AllByRecursion (λ line. list_all is_plain_byte line ≡ true) lines
+unfolding is_plain
+bytes_plain [] all = tt
+bytes_plain (line ∷ lines) all = ((and_parts (nat_le (length line) 4096) (list_all is_plain_byte line) all.0).1, bytes_plain lines all.1)
+
+-- lines that were read are of plain bytes
+pub lines_plain : (lines : List (List ℕ)) (r s : Reading) → with_lines r lines ≡ Ok s → AllByRecursion (λ line. list_all is_plain_byte line ≡ true) lines
+unfolding with_lines is_plain
 lines_plain [] r s e = tt
 lines_plain (line ∷ lines) r s e = by_line (with_line r line) refl (λ u. lines_plain lines u s) e
   where
     by_line : (found : Result Reading Cause) → with_line r line ≡ found →
-        ((u : Reading) → with_lines u lines ≡ Ok s → AllByRecursion (λ line. is_plain line ≡ true) lines) →
-        and_then found (λ u. with_lines u lines) ≡ Ok s → AllByRecursion (λ line. is_plain line ≡ true) (line ∷ lines)
+        ((u : Reading) → with_lines u lines ≡ Ok s → AllByRecursion (λ line. list_all is_plain_byte line ≡ true) lines) →
+        and_then found (λ u. with_lines u lines) ≡ Ok s → AllByRecursion (λ line. list_all is_plain_byte line ≡ true) (line ∷ lines)
     by_line (Err c) is more e = cc
-    by_line (Ok u) is more e = ((line_passes r u line is).plain, more u e)
+    by_line (Ok u) is more e = ((and_parts (nat_le (length line) 4096) (list_all is_plain_byte line) (line_passes r u line is).plain).1, more u e)
 
 -- behind lines nothing more stands
 some_first : (lines : List (List ℕ)) → HasFirst (lines ++ [] ∷ [])

@@ -1,10 +1,5 @@
 -- The names of objects by kind, one more object at a time.
-use Rattle.std.proofs.Common.{ℕ, zero, suc, sym, ap, ◌≡◌, ◌+◌, ◌<◌, ◌≤◌, ◌∙◌, List, [], ◌∷◌, ◌++◌, length, drop, drop-cons, get_or, slice_get, Some, None, arith, add-one, refl, append_assoc, append-nil}
-use Rattle.std.proofs.lemmas.List.{drop_all, length-drop}
-use Rattle.trace_text.specs.declared.object.Declared.{Declared}
-use Rattle.trace_text.specs.declared.object.Declared.TheVariants.{Queue, Fence, Buffer, Allocator, List as list}
-use Rattle.trace_text.specs.Kinds.{kind_of}
-use Rattle.trace_text.specs.Known.{KnownNames, with_name, names_of_kind, known_names}
+use Rattle.trace_text.proofs.Vocabulary.{ℕ, zero, suc, sym, ap, ◌≡◌, ◌+◌, ◌<◌, ◌≤◌, ◌∙◌, List, [], ◌∷◌, ◌++◌, length, drop, drop-cons, get_or, slice_get, Some, None, arith, add-one, refl, append_assoc, append-nil, drop_all, length-drop, Declared, Queue, Fence, Buffer, Allocator, list, kind_of, KnownNames, with_name, names_of_kind, known_names}
 
 -- names, and others behind them
 abbrev pub joined : KnownNames → KnownNames → KnownNames

@@ -1,10 +1,6 @@
 -- What a run leaves, one more thread or queue at a time.
-use Rattle.std.proofs.Common.{ℕ, zero, suc, ◌≡◌, ◌+◌, ◌<◌, ◌∙◌, sym, Bool, true, false, List, [], ◌∷◌, ◌++◌, length, get_or, cond, arith, refl, append-nil}
-use Rattle.std.specs.List.{filter, range_with_len}
+use Rattle.trace_text.proofs.Vocabulary.{ℕ, zero, suc, ◌≡◌, ◌+◌, ◌<◌, ◌∙◌, sym, Bool, true, false, List, [], ◌∷◌, ◌++◌, length, get_or, cond, arith, refl, append-nil, filter, range_with_len, map-id, Call, Event}
 use Rattle.std.proofs.lemmas.List.FromFn.{filter_of_map_range_with_len_more}
-use Rattle.std.proofs.lemmas.List.{map-id}
-use Rattle.d3d_machine.specs.declared.calls.Call.{Call}
-use Rattle.d3d_machine.specs.declared.events.Event.{Event}
 use Rattle.trace_text.specs.Left.{script_at, is_left, progress_of, is_unfinished_of}
 
 -- one more number is tried

@@ -1,7 +1,9 @@
+pub mod Vocabulary
 pub mod Answered
 pub mod Scripting
 pub mod TextSteps
 pub mod TakenBytes
+pub mod Passing
 pub mod Written
 pub mod Knowing
 pub mod Says
@@ -14,8 +16,7 @@ pub mod Sound
 pub mod SoundLines
 pub mod Grammar
 pub mod Fitting
-pub mod PrintedItems
-pub mod PrintedTraces
+pub mod PrintedLines
 pub mod Printing
 pub mod Leaving
 pub mod NamesBack
@@ -23,3 +24,5 @@ pub mod Opening
 pub mod Reaching
 pub mod SoundReads
 pub mod SoundWritten
+pub mod StalledLines
+pub mod Spelling

@@ -1,22 +1,6 @@
 -- The name of an object names that object, one more name at a time.
-use Rattle.std.proofs.Common.{ℕ, suc, ◌≡◌, inl, inr, ◌<◌, ◌≤◌, ◌∙◌, Bool, true, false, List, [], ◌∷◌, ◌++◌, length, map, slice_get, get_or, Some, None, refl, sym, ap, arith, if◌then◌else◌}
-use Rattle.std.specs.Cmp.{IsEquivalence}
-use Rattle.std.specs.Cmp.Rules.{comparing}
-use Rattle.std.specs.List.{AllByRecursion, IsDistinct}
-use Rattle.std.specs.Map.{lookup}
-use Rattle.std.specs.Str.{bytes_eq}
-use Rattle.std.proofs.lemmas.Bool.{leb-true}
-use Rattle.std.proofs.lemmas.Bool.Decides.{leb_tells}
-use Rattle.std.proofs.lemmas.List.{map_push, length-map}
-use Rattle.std.proofs.lemmas.Option.{slice_get-get_or}
-use Rattle.trace_text.specs.declared.object.Declared.{Declared}
-use Rattle.line_forms.specs.declared.kind.Kind.{Kind}
-use Rattle.trace_text.specs.declared.things.Thing.{Thing}
-use Rattle.trace_text.specs.Kinds.{kind_of, count_of, next_thing}
-use Rattle.trace_text.specs.Known.{names_of_kind}
-use Rattle.trace_text.specs.Names.{name_at}
-use Rattle.trace_text.specs.Sound.{is_fit_name}
-use Rattle.trace_text.specs.Things.{Names, same_kind}
+use Rattle.trace_text.proofs.Vocabulary.{ℕ, suc, ◌≡◌, inl, inr, ◌<◌, ◌≤◌, ◌∙◌, Bool, true, false, List, [], ◌∷◌, ◌++◌, length, map, slice_get, get_or, Some, None, refl, sym, ap, arith, if◌then◌else◌, IsEquivalence, comparing, AllByRecursion, lookup, bytes_eq, leb-true, leb_tells, map_push, length-map, slice_get-get_or, Declared, Kind, Thing, kind_of, count_of, next_thing, names_of_kind, name_at, is_fit_name, Names, same_kind}
+use Rattle.std.specs.List.{IsDistinct}
 use Rattle.trace_text.proofs.Naming.{names_in, get_front, get_last, names_push, names_behind, names_count}
 use Rattle.trace_text.proofs.Says.{IsNameOf, kinds_same, fit_parts, name_there}
 use Rattle.trace_text.proofs.SoundValues.{count_push}

@@ -1,20 +1,6 @@
 -- What names name, one more name at a time.
-use Rattle.std.proofs.Common.{ℕ, zero, suc, ◌≡◌, ◌⊎◌, inl, inr, ◌≤◌, ◌+◌, ◌||◌, ◌∙◌, Bool, true, false, List, [], ◌∷◌, ◌++◌, length, map, slice_get, Some, None, refl, sym, ap, arith, subst, append_assoc, append-nil, if◌then◌else◌}
-use Rattle.std.specs.List.{list_any}
-use Rattle.std.specs.Map.{lookup}
-use Rattle.std.specs.Str.{bytes_eq}
-use Rattle.std.proofs.lemmas.List.{map_push, length-map}
-use Rattle.std.proofs.lemmas.List.Sums.{sum_by-cons}
-use Rattle.indexmap.specs.IndexMap.{insert_entry}
-use Rattle.trace_text.specs.declared.object.Declared.{Declared}
-use Rattle.line_forms.specs.declared.kind.Kind.{Kind}
+use Rattle.trace_text.proofs.Vocabulary.{ℕ, zero, suc, ◌≡◌, ◌⊎◌, inl, inr, ◌≤◌, ◌+◌, ◌||◌, ◌∙◌, Bool, true, false, List, [], ◌∷◌, ◌++◌, length, map, slice_get, Some, None, refl, sym, ap, arith, subst, append_assoc, append-nil, if◌then◌else◌, list_any, lookup, bytes_eq, map_push, length-map, sum_by-cons, insert_entry, Declared, Kind, Thing, kind_of, count_of, next_thing, names_of_kind, Names, same_kind}
 use Rattle.line_forms.specs.declared.kind.Kind.TheVariants as kind
-use Rattle.trace_text.specs.declared.things.Thing.{Thing}
-use Rattle.trace_text.specs.Kinds.{kind_of, count_of, next_thing}
-use Rattle.trace_text.specs.Known.{names_of_kind}
-use Rattle.trace_text.specs.Things.{Names, same_kind}
-use Rattle.trace_text.specs.Scripts.{with_call}
-use Rattle.d3d_machine.specs.declared.calls.Call.{Call}
 use Rattle.trace_text.proofs.Says.{IsNameOf, bytes_same, kind_same}
 
 -- the names alone
@@ -184,36 +170,3 @@ placed_thread names ds n number few placed k i w apart named =
     by_found (inr new) =
         let kind_is : k ≡ kind.Thread = named.kind_is ∙ ap (λ (t : Thing). t.kind) (sym new.1) in
         absurd (apart_from k kind_is apart)
-
--- what the names of objects name, behind those of other objects
-abbrev pub object_things : List Declared → List Declared → List Thing
-object_things before [] = []
-object_things before (d ∷ ds) = next_thing before d ∷ object_things (before ++ d ∷ []) ds
-
--- what the names of threads name, of which the first has that number
-abbrev pub thread_things : ℕ → List (List Call) → List Thing
-thread_things k [] = []
-thread_things k (s ∷ ss) = record { kind = kind.Thread; number = k } ∷ thread_things (k + 1) ss
-
--- one more object
-pub objects_push : (before ds : List Declared) (d : Declared) →
-    object_things before (ds ++ d ∷ []) ≡ object_things before ds ++ next_thing (before ++ ds) d ∷ []
-objects_push before [] d = rw append-nil refl
-objects_push before (e ∷ ds) d =
-    ap (λ more. next_thing before e ∷ more) (objects_push (before ++ e ∷ []) ds d
-    ∙ ap (λ all. object_things (before ++ e ∷ []) ds ++ next_thing all d ∷ []) (append_assoc before (e ∷ []) ds))
-
--- one more thread
-pub threads_push : (k : ℕ) (ss : List (List Call)) (s : List Call) →
-    thread_things k (ss ++ s ∷ []) ≡ thread_things k ss ++ record { kind = kind.Thread; number = k + length ss } ∷ []
-threads_push k [] s = let same : k ≡ k + 0 = omega arith in rw (← same) refl
-threads_push k (t ∷ ss) s =
-    let same : (k + 1) + length ss ≡ k + suc (length ss) = omega arith in
-    ap (λ more. record { kind = kind.Thread; number = k } ∷ more) (rw (← same) (threads_push (k + 1) ss s))
-
--- a call adds no name
-pub threads_call : (k : ℕ) (ss : List (List Call)) (c : Call) → thread_things k (with_call ss c) ≡ thread_things k ss
-unfolding with_call
-threads_call k [] c = refl
-threads_call k (s ∷ []) c = refl
-threads_call k (s ∷ t ∷ ss) c = ap (λ more. record { kind = kind.Thread; number = k } ∷ more) (threads_call (k + 1) (t ∷ ss) c)

@@ -1,29 +1,7 @@
 -- The objects, the threads and the calls of a sound value, the first line and the last may stand in lines.
-use Rattle.std.proofs.Common.{ℕ, ◌≡◌, ◌==◌, ◌&&◌, ◌||◌, ◌∙◌, not, nat_lt, Bool, true, false, List, [], ◌∷◌, length, None, is_some, refl, sym, ap, subst, arith, if◌then◌else◌}
-use Rattle.std.specs.Map.{lookup}
-use Rattle.std.specs.Str.{bytes_eq}
-use Rattle.std.proofs.lemmas.Bool.{and_from, le-ltb}
-use Rattle.d3d_machine.specs.declared.calls.Call.{Call}
-use Rattle.d3d_machine.specs.World.{is_named}
+use Rattle.trace_text.proofs.Vocabulary.{ℕ, ◌≡◌, ◌==◌, ◌&&◌, ◌||◌, ◌∙◌, not, nat_lt, Bool, true, false, List, [], ◌∷◌, length, None, is_some, refl, sym, ap, subst, arith, if◌then◌else◌, lookup, bytes_eq, and_from, le-ltb, Call, is_named, IsGoodLine, is_sound_line, is_named_line, pass, Class, Item, Header, Declares, Starts, Calls, Ends, Declared, Reading, item_formed, form_row, kind_of, count_of, is_one_too_many, KnownNames, known_of, opening, is_second, is_header, fault_of_place, is_over, naming_of, is_call_too_many, is_fit_name, is_sound_object, is_sound_call, same_kind, objects_of}
 use Rattle.line_forms.specs.declared.kind.Kind.TheVariants as kind
-use Rattle.line_forms.specs.Laws.{IsGoodLine}
-use Rattle.line_forms.specs.Sound.{is_sound_line, is_named_line}
-use Rattle.line_forms.proofs.Tests.{pass}
-use Rattle.trace_text.specs.declared.form.Class.{Class}
 use Rattle.trace_text.specs.declared.form.Class.TheVariants as class
-use Rattle.trace_text.specs.declared.item.Item.{Item}
-use Rattle.trace_text.specs.declared.item.Item.TheVariants.{Header, Declares, Starts, Calls, Ends}
-use Rattle.trace_text.specs.declared.object.Declared.{Declared}
-use Rattle.trace_text.specs.declared.reading.Reading.{Reading}
-use Rattle.trace_text.specs.Formed.{item_formed}
-use Rattle.trace_text.specs.Forms.{form_row}
-use Rattle.trace_text.specs.Kinds.{kind_of, count_of, is_one_too_many}
-use Rattle.trace_text.specs.Known.{KnownNames, known_of}
-use Rattle.trace_text.specs.Reading.{opening, is_second, is_header, fault_of_place, is_over, naming_of}
-use Rattle.trace_text.specs.Scripts.{is_call_too_many}
-use Rattle.trace_text.specs.Sound.{is_fit_name, is_sound_object, is_sound_call}
-use Rattle.trace_text.specs.Things.{same_kind}
-use Rattle.trace_text.specs.WorldOf.{objects_of}
 use Rattle.trace_text.proofs.Fitting.{Fits, in_place, item_good, call_good}
 use Rattle.trace_text.proofs.NamesBack.{AreNamed}
 use Rattle.trace_text.proofs.Own.{item_class, object_class, own, object_wide, counts_in, named_same}

@@ -1,41 +1,15 @@
 -- What holds of each form: a line makes the item whose line it is, the form has its place, and the words that stand as they are tell it.
-use Rattle.std.proofs.Common.{ℕ, zero, suc, ◌≡◌, ◌∙◌, ◌&&◌, ◌||◌, nat_lt, length, Bool, true, false, List, [], ◌∷◌, map, slice_get, Some, if◌then◌else◌, refl, sym, ap}
-use Rattle.std.specs.List.{list_all}
-use Rattle.std.proofs.lemmas.Bool.{and_parts}
+use Rattle.trace_text.proofs.Vocabulary.{ℕ, zero, suc, ◌≡◌, ◌∙◌, ◌&&◌, ◌||◌, nat_lt, length, Bool, true, false, List, [], ◌∷◌, map, slice_get, Some, if◌then◌else◌, refl, sym, ap, list_all, and_parts, Call, World, is_named, is_name, Line, Kind, shaped_line, apart, all_apart, Place, Word, Name, NewName, Number, DataWord, FlagWord, Set, Choice, AllOr, AllOrNumber, Row, Known, part_texts, rest_texts, line_words, all_tests, is_sound_line, is_named_line, passes, is_kept, is_plain_part, is_bounded, new_tests, Class, Form, Item, Header, Declares, Starts, Calls, Ends, Declared, Formed, formed, item_formed, call_formed, made, list_named, item_words, form_row, forms, class_of, kind_of, KnownNames, same_kind, is_later, is_sound_object}
 use Rattle.dx_base.specs.declared.ids.ListId.{ListId}
 use Rattle.dx_base.specs.declared.kinds.Home.TheVariants as home_of
 use Rattle.dx_base.specs.declared.kinds.ListType.TheVariants as type_of
-use Rattle.d3d_machine.specs.declared.calls.Call.{Call}
 use Rattle.d3d_machine.specs.declared.calls.Call.TheVariants as call
 use Rattle.d3d_machine.specs.declared.calls.Record.TheVariants.{Copy}
-use Rattle.d3d_machine.specs.declared.world.World.{World}
-use Rattle.d3d_machine.specs.World.{is_named}
 use Rattle.trace_words.specs.Rows.{is_among}
-use Rattle.trace_words.specs.Words.{is_name}
-use Rattle.line_forms.specs.declared.form.Line.{Line}
-use Rattle.line_forms.specs.declared.kind.Kind.{Kind}
 use Rattle.line_forms.specs.declared.kind.Kind.TheVariants as kind
-use Rattle.line_forms.specs.Laws.{shaped_line, apart, all_apart}
-use Rattle.line_forms.specs.Parts.{Place, Word, Name, NewName, Number, DataWord, FlagWord, Set, Choice, AllOr, AllOrNumber, Row}
-use Rattle.line_forms.specs.Printing.{Known, part_texts, rest_texts, line_words}
-use Rattle.line_forms.specs.Sound.{all_tests, is_sound_line, is_named_line}
-use Rattle.line_forms.proofs.ShortLines.{is_plain_part, is_kept, is_bounded}
-use Rattle.line_forms.proofs.Tests.{new_tests}
-use Rattle.trace_text.specs.declared.form.Class.{Class}
 use Rattle.trace_text.specs.declared.form.Class.TheVariants as class
-use Rattle.trace_text.specs.declared.form.Form.{Form}
 use Rattle.trace_text.specs.declared.form.Form.TheVariants as form
-use Rattle.trace_text.specs.declared.item.Item.{Item}
-use Rattle.trace_text.specs.declared.item.Item.TheVariants.{Header, Declares, Starts, Calls, Ends}
-use Rattle.trace_text.specs.declared.object.Declared.{Declared}
 use Rattle.trace_text.specs.declared.object.Declared.TheVariants as declared
-use Rattle.trace_text.specs.Formed.{Formed, formed, item_formed, call_formed, made, list_named, item_words}
-use Rattle.trace_text.specs.Forms.{form_row, forms, class_of}
-use Rattle.trace_text.specs.Kinds.{kind_of}
-use Rattle.trace_text.specs.Known.{KnownNames}
-use Rattle.trace_text.specs.Things.{same_kind}
-use Rattle.trace_text.specs.Later.{is_later}
-use Rattle.trace_text.specs.Sound.{is_sound_object}
 
 -- the tests of an item's new name
 abbrev pub item_news : (List ℕ → Bool) → Item → List Bool
@@ -240,11 +214,6 @@ is_spoken (AllOrNumber ∷ ps) = false
 -- the words of a form that stand as they are are plain, the first is a name, and its lines are short or printed as they were read
 abbrev pub is_fine : Form → Bool
 is_fine f = is_spoken (form_row f).parts && (list_all is_plain_part (form_row f).parts && (is_kept (form_row f) || is_bounded (form_row f)))
-
-passes : (p : Form → Bool) (fs : List Form) (k : ℕ) (f : Form) → list_all p fs ≡ true → slice_get fs k ≡ Some f → p f ≡ true
-passes p [] k f all e = cc
-passes p (g ∷ fs) zero f all e = let is : g ≡ f = cc in rw (← is) (and_parts (p g) (list_all p fs) all).0
-passes p (g ∷ fs) (suc k) f all e = passes p fs k f (and_parts (p g) (list_all p fs) all).1 e
 
 all_fine : list_all is_fine forms ≡ true
 unfolding is_name

@@ -1,13 +1,5 @@
 -- The lines of objects and of threads, one more at a time.
-use Rattle.std.proofs.Common.{ℕ, suc, ap, ◌≡◌, ◌+◌, ◌<◌, ◌≤◌, ◌∙◌, sym, List, [], ◌∷◌, ◌++◌, length, map, flat_map, drop, drop-cons, get_or, slice_get, Some, None, add-one, refl, append_assoc, append-nil}
-use Rattle.std.proofs.lemmas.Grind.{flat_map-append}
-use Rattle.std.proofs.lemmas.List.{drop_all}
-use Rattle.d3d_machine.specs.declared.calls.Call.{Call}
-use Rattle.trace_text.specs.declared.item.Item.TheVariants.{Declares, Starts, Calls}
-use Rattle.trace_text.specs.declared.object.Declared.{Declared}
-use Rattle.trace_text.specs.Formed.{item_text}
-use Rattle.trace_text.specs.Items.{object_items, thread_items}
-use Rattle.trace_text.specs.Known.{KnownNames}
+use Rattle.trace_text.proofs.Vocabulary.{ℕ, suc, ap, ◌≡◌, ◌+◌, ◌<◌, ◌≤◌, ◌∙◌, sym, List, [], ◌∷◌, ◌++◌, length, map, flat_map, drop, drop-cons, get_or, slice_get, Some, None, add-one, refl, append_assoc, append-nil, flat_map-append, drop_all, Call, Declares, Starts, Calls, Declared, item_text, object_items, thread_items, KnownNames}
 use Rattle.trace_text.proofs.Knowing.{drops_some, drops_none, drops_none_next}
 
 -- the text of the objects from a place on

@@ -1,18 +1,9 @@
 -- What names name: a new name, and the name of a thing.
-use Rattle.std.proofs.Common.{ℕ, zero, suc, ◌≡◌, ◌≤◌, ◌==◌, ◌&&◌, ◌∙◌, not, nat_le, Bool, true, false, List, length, slice_get, Option, Some, None, is_some, Result, Ok, Err, sym, refl, ap, arith, if◌then◌else◌}
-use Rattle.std.specs.Map.{lookup}
-use Rattle.std.specs.Str.{bytes_eq}
-use Rattle.std.proofs.lemmas.Bool.{and_parts, and_from, leb-true, le-leb}
-use Rattle.std.proofs.lemmas.Bool.Decides.{nat_tests}
+use Rattle.trace_text.proofs.Vocabulary.{ℕ, zero, suc, ◌≡◌, ◌≤◌, ◌==◌, ◌&&◌, ◌∙◌, not, nat_le, Bool, true, false, List, length, slice_get, Option, Some, None, is_some, Result, Ok, Err, sym, refl, ap, arith, if◌then◌else◌, lookup, bytes_eq, and_parts, and_from, leb-true, le-leb, nat_tests, is_name, Cause, Kind, Thing, name_at, is_fit_name, Names, kind_code, same_kind, numbered, thing_of, number_named, new_name}
 use Rattle.std.proofs.lemmas.Slice.Eq.{bytes_eq-Decides}
-use Rattle.trace_words.specs.Words.{is_name}
 use Rattle.line_forms.specs.declared.cause.Cause.TheVariants as cause
-use Rattle.line_forms.specs.declared.kind.Kind.{Kind}
 use Rattle.line_forms.specs.declared.kind.Kind.TheVariants as kind
-use Rattle.trace_text.specs.declared.things.Thing.{Thing}
-use Rattle.trace_text.specs.Names.{name_at}
-use Rattle.trace_text.specs.Sound.{is_fit_name}
-use Rattle.trace_text.specs.Things.{Names, kind_code, same_kind, numbered, thing_of, number_named, new_name}
+use Rattle.trace_text.proofs.Passing.{passed, stopped, none_there}
 
 -- a name that is not declared yet
 pub record IsNew (names : Names) (n w : List ℕ) : Type 0 where
@@ -37,23 +28,13 @@ bytes_same a b e = (bytes_eq-Decides a b).0 e
 -- the tests of a name that is not declared yet
 pub new_says : (names : Names) (w n : List ℕ) → new_name names w ≡ Ok n → IsNew names n w
 unfolding new_name
-new_says names w n e = spelled (is_name w) refl e
-  where
-    fresh : (found : Option Thing) → is_name w ≡ true → length w ≤ 32 → lookup (bytes_eq w) names ≡ found →
-        (if is_some found then Err cause.Again else Ok w) ≡ Ok n → IsNew names n w
-    fresh None s l f e = record { same = cc; spelled = s; short = l; fresh = f }
-    fresh (Some t) s l f e = cc
-
-    short : (t : Bool) → is_name w ≡ true → nat_le (length w) 32 ≡ t →
-        (if t then (if is_some (lookup (bytes_eq w) names) then Err cause.Again else Ok w) else Err cause.Limit) ≡ Ok n → IsNew names n w
-    short true s l e = fresh (lookup (bytes_eq w) names) s (leb-true (length w) 32 l) refl e
-    short false s l e = cc
-
-    spelled : (t : Bool) → is_name w ≡ t →
-        (if t then (if nat_le (length w) 32 then (if is_some (lookup (bytes_eq w) names) then Err cause.Again else Ok w) else Err cause.Limit)
-        else Err cause.Form) ≡ Ok n → IsNew names n w
-    spelled true s e = short (nat_le (length w) 32) s refl e
-    spelled false s e = cc
+new_says names w n e =
+    let found : Result (List ℕ) Cause = if is_some (lookup (bytes_eq w) names) then Err cause.Again else Ok w in
+    let spelled = passed (is_name w) cause.Form (if nat_le (length w) 32 then found else Err cause.Limit) n e in
+    let short = passed (nat_le (length w) 32) cause.Limit found n spelled.1 in
+    let fresh = stopped (is_some (lookup (bytes_eq w) names)) cause.Again (Ok w) n short.1 in
+    let same : w ≡ n = cc (fresh.1) in
+    record { same = sym same; spelled = spelled.0; short = leb-true (length w) 32 short.0; fresh = none_there (lookup (bytes_eq w) names) fresh.0 }
 
 -- the kind of a number
 kind_from : ℕ → Kind
@@ -83,27 +64,18 @@ kinds_same a b e =
 -- a word that names a thing of that kind
 pub number_says : (k : Kind) (names : Names) (w : List ℕ) (i : ℕ) → number_named k names w ≡ Ok i → IsNameOf names k i w
 unfolding number_named thing_of
-number_says k names w i e = spelled (is_name w) refl e
+number_says k names w i e =
+    let spelled = passed (is_name w) cause.Form (numbered k (if nat_le (length w) 32 then lookup (bytes_eq w) names else None)) i e in
+    found (nat_le (length w) 32) (lookup (bytes_eq w) names) spelled.0 refl refl spelled.1
   where
-    of_kind : (t : Thing) (same : Bool) → is_name w ≡ true → length w ≤ 32 → lookup (bytes_eq w) names ≡ Some t → same_kind k t.kind ≡ same →
-        (if same then Ok t.number else Err cause.Name) ≡ Ok i → IsNameOf names k i w
-    of_kind t true s l f is e = record { thing = t; found = f; kind_is = kinds_same k t.kind is; number_is = cc; spelled = s; short = l }
-    of_kind t false s l f is e = cc
-
-    found_by : (found : Option Thing) → is_name w ≡ true → length w ≤ 32 → lookup (bytes_eq w) names ≡ found →
-        numbered k found ≡ Ok i → IsNameOf names k i w
-    found_by None s l f e = cc
-    found_by (Some t) s l f e = of_kind t (same_kind k t.kind) s l f refl e
-
-    short : (t : Bool) → is_name w ≡ true → nat_le (length w) 32 ≡ t →
-        numbered k (if t then lookup (bytes_eq w) names else None) ≡ Ok i → IsNameOf names k i w
-    short true s l e = found_by (lookup (bytes_eq w) names) s (leb-true (length w) 32 l) refl e
-    short false s l e = cc
-
-    spelled : (t : Bool) → is_name w ≡ t →
-        (if t then numbered k (if nat_le (length w) 32 then lookup (bytes_eq w) names else None) else Err cause.Form) ≡ Ok i → IsNameOf names k i w
-    spelled true s e = short (nat_le (length w) 32) s refl e
-    spelled false s e = cc
+    found : (t : Bool) (there : Option Thing) → is_name w ≡ true → nat_le (length w) 32 ≡ t → lookup (bytes_eq w) names ≡ there →
+        numbered k (if t then there else None) ≡ Ok i → IsNameOf names k i w
+    found true None s l f e = cc
+    found false there s l f e = cc
+    found true (Some t) s l f e =
+        let same = passed (same_kind k t.kind) cause.Name (Ok t.number) i e in
+        let number : t.number ≡ i = cc (same.1) in
+        record { thing = t; found = f; kind_is = kinds_same k t.kind same.0; number_is = number; spelled = s; short = leb-true (length w) 32 l }
 
 -- the tests of a name
 pub record IsFit (w : List ℕ) : Type 0 where

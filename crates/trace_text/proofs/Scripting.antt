@@ -1,7 +1,5 @@
 -- One more call of the last thread.
-use Rattle.std.proofs.Common.{ℕ, zero, suc, ◌≡◌, ◌+◌, List, [], ◌∷◌, ◌++◌, length, get_or, slice_set, arith, ap}
-use Rattle.d3d_machine.specs.declared.calls.Call.{Call}
-use Rattle.trace_text.specs.Scripts.{with_call}
+use Rattle.trace_text.proofs.Vocabulary.{ℕ, zero, suc, ◌≡◌, ◌+◌, List, [], ◌∷◌, ◌++◌, length, get_or, slice_set, arith, ap, Call, with_call}
 
 -- writing the longer script in place of the last
 pub last_grows : (ss : List (List Call)) (i : ℕ) (s t : List Call) (c : Call) → i + 1 ≡ length ss → s ≡ get_or ss i s → t ≡ s ++ c ∷ [] →

@@ -1,53 +1,18 @@
 -- What is read is sound, line by line.
-use Rattle.std.proofs.Common.{ℕ, ◌≡◌, ◌<◌, ◌≤◌, ◌+◌, ◌==◌, ◌&&◌, ◌||◌, ◌∙◌, nat_le, nat_lt, Bool, true, false, List, [], ◌∷◌, ◌++◌, length, map, Some, None, Ok, Err, refl, sym, ap, subst, arith, append-nil, append_assoc, if◌then◌else◌}
-use Rattle.std.specs.List.{list_all}
-use Rattle.std.specs.Map.{lookup}
-use Rattle.std.specs.Str.{bytes_eq}
-use Rattle.std.proofs.lemmas.Bool.{and_from, lt-ltb, le-leb, ltb-true, ltb-false, eqb-false}
-use Rattle.std.proofs.lemmas.Bool.Decides.{nat_tests}
-use Rattle.std.proofs.lemmas.List.{map_push, length-map}
-use Rattle.std.proofs.lemmas.Option.{slice_get_within}
-use Rattle.d3d_machine.specs.declared.calls.Call.{Call}
-use Rattle.d3d_machine.specs.World.{is_named}
-use Rattle.indexmap.specs.IndexMap.{insert_entry}
-use Rattle.trace_words.specs.Words.{is_name}
+use Rattle.trace_text.proofs.Vocabulary.{ℕ, ◌≡◌, ◌<◌, ◌≤◌, ◌+◌, ◌==◌, ◌&&◌, ◌||◌, ◌∙◌, nat_le, nat_lt, Bool, true, false, List, [], ◌∷◌, ◌++◌, length, map, Option, Some, None, Ok, refl, sym, ap, subst, arith, append-nil, append_assoc, if◌then◌else◌, list_all, lookup, bytes_eq, and_from, lt-ltb, le-leb, ltb-true, ltb-false, eqb-false, nat_tests, map_push, length-map, slice_get_within, Call, is_named, insert_entry, is_name, Cause, Kind, AreCalled, read_row, line_kept, AreShortNames, pass, pass_one, sound_read, named_read, new_read, Class, Item, Header, Declares, Starts, Calls, Ends, Declared, Reading, Thing, item_formed, item_words, form_row, kind_of, count_of, next_thing, is_one_too_many, KnownNames, names_of_kind, known_names, known_of, is_later, name_at, is_second, is_misplaced, is_header, fault_of_place, is_over, with_item, has_queue, has_thread, object_named, naming_of, is_call_too_many, is_fit_name, is_sound_object, is_sound_call, IsSound, Names, same_kind, value_in, world_of_value, objects_of}
 use Rattle.line_forms.specs.declared.cause.Cause.TheVariants as cause
-use Rattle.line_forms.specs.declared.kind.Kind.{Kind}
 use Rattle.line_forms.specs.declared.kind.Kind.TheVariants as kind
-use Rattle.line_forms.specs.Laws.{AreNamed as AreCalled}
-use Rattle.line_forms.specs.Reading.{read_row}
-use Rattle.line_forms.proofs.ShortLines.{AreShortNames, line_kept}
-use Rattle.line_forms.proofs.Tests.{pass, pass_one, sound_read, named_read, new_read}
-use Rattle.trace_text.specs.declared.form.Class.{Class}
 use Rattle.trace_text.specs.declared.form.Class.TheVariants as class
-use Rattle.trace_text.specs.declared.item.Item.{Item}
-use Rattle.trace_text.specs.declared.item.Item.TheVariants.{Header, Declares, Starts, Calls, Ends}
-use Rattle.trace_text.specs.declared.object.Declared.{Declared}
-use Rattle.trace_text.specs.declared.reading.Reading.{Reading}
-use Rattle.trace_text.specs.declared.things.Thing.{Thing}
-use Rattle.trace_text.specs.Formed.{item_formed, item_words}
-use Rattle.trace_text.specs.Forms.{form_row}
-use Rattle.trace_text.specs.Kinds.{kind_of, count_of, next_thing, is_one_too_many}
-use Rattle.trace_text.specs.Known.{KnownNames, names_of_kind, known_names, known_of}
-use Rattle.trace_text.specs.Later.{is_later}
-use Rattle.trace_text.specs.Names.{name_at}
-use Rattle.trace_text.specs.Reading.{is_second, is_misplaced, is_header, fault_of_place, is_over, with_item, has_queue, has_thread, object_named, naming_of}
-use Rattle.trace_text.specs.Scripts.{is_call_too_many}
-use Rattle.trace_text.specs.Sound.{is_fit_name, is_sound_object, is_sound_call, IsSound}
-use Rattle.trace_text.specs.Things.{Names, same_kind}
-use Rattle.trace_text.specs.Values.{value_in}
-use Rattle.trace_text.specs.WorldOf.{world_of_value, objects_of}
-use Rattle.trace_text.proofs.Naming.{names_in, insert_new, not_any, names_count, ArePlaced, placed_object, placed_thread, object_things, thread_things, objects_push, threads_push, threads_call}
+use Rattle.trace_text.proofs.Naming.{names_in, insert_new, not_any, names_count, ArePlaced, placed_object, placed_thread}
 use Rattle.trace_text.proofs.Own.{item_news, object_class, item_class, is_timely, own, object_built, counts_in, named_same}
+use Rattle.trace_text.proofs.Passing.{no_cause}
 use Rattle.trace_text.proofs.Says.{IsNew, IsNameOf, number_says, new_says, is_new, new_read as new_passes, new_facts, name_there}
 use Rattle.trace_text.proofs.SoundValues.{sound_object, sound_thread, sound_call}
 use Rattle.trace_text.proofs.SoundWorlds.{queues_are, fences_are, resources_are, allocators_are, lists_are}
 
--- what was read is sound: it says a sound value, each name of an object names that object by its kind and number, and
--- those of the threads are numbered from 0
+-- what was read is sound: it says a sound value, and each name of an object names that object by its kind and number
 pub record IsKept (r : Reading) : Type 0 where
   pub sound : IsSound (value_in r)
-  pub things : map (λ e. e.1) r.names ≡ object_things [] r.declared ++ thread_things 0 r.scripts
   pub placed : ArePlaced r.names r.declared
 
 -- names are as many as objects and threads
@@ -81,16 +46,9 @@ kept_object r n w d kept new none good room queues =
       sound = subst (λ ns. IsSound (record { names = ns; declared = r.declared ++ d ∷ []; scripts = r.scripts }))
           (sym (map_push (λ (e : List ℕ × Thing). e.0) r.names (n, t)))
           (sound_object (value_in r) n d kept.sound none (fit_name r.names n w new) (not_any r.names n (fresh_name r.names n w new)) good room queues);
-      things = map_push (λ (e : List ℕ × Thing). e.1) r.names (n, t) ∙ behind r.scripts none kept.things;
       placed = placed_object r.names r.declared n d (omega (arith, names_long r kept, none)) kept.placed;
     } in
     subst (λ names. IsKept (record r { names = names; declared = r.declared ++ d ∷ [] })) (sym (named r n w t new)) more
-  where
-    behind : (ss : List (List Call)) → length ss ≡ 0 → map (λ e. e.1) r.names ≡ object_things [] r.declared ++ thread_things 0 ss →
-        map (λ e. e.1) r.names ++ next_thing r.declared d ∷ [] ≡ object_things [] (r.declared ++ d ∷ []) ++ thread_things 0 ss
-    behind [] none things =
-        rw (things, append-nil (object_things [] r.declared), append-nil (object_things [] (r.declared ++ d ∷ []))) (sym (objects_push [] r.declared d))
-    behind (s ∷ ss) none things = absurd (omega arith)
 
 -- one more thread
 kept_thread : (r : Reading) (n w : List ℕ) → IsKept r → IsNew r.names n w → length r.scripts ≡ 0 → IsKept (with_item r (Starts n))
@@ -101,17 +59,9 @@ kept_thread r n w kept new none =
       sound = subst (λ ns. IsSound (record { names = ns; declared = r.declared; scripts = r.scripts ++ [] ∷ [] }))
           (sym (map_push (λ (e : List ℕ × Thing). e.0) r.names (n, t)))
           (sound_thread (value_in r) n kept.sound none (fit_name r.names n w new) (not_any r.names n (fresh_name r.names n w new)));
-      things = map_push (λ (e : List ℕ × Thing). e.1) r.names (n, t) ∙ behind kept.things;
       placed = placed_thread r.names r.declared n (length r.scripts) (omega (arith, names_long r kept)) kept.placed;
     } in
     subst (λ names. IsKept (record r { names = names; scripts = r.scripts ++ [] ∷ [] })) (sym (named r n w t new)) more
-  where
-    behind : map (λ e. e.1) r.names ≡ object_things [] r.declared ++ thread_things 0 r.scripts →
-        map (λ e. e.1) r.names ++ record { kind = kind.Thread; number = length r.scripts } ∷ []
-        ≡ object_things [] r.declared ++ thread_things 0 (r.scripts ++ [] ∷ [])
-    behind things =
-        let count : 0 + length r.scripts ≡ length r.scripts = omega arith in
-        rw (things, threads_push 0 r.scripts [], count, append_assoc) refl
 
 -- one more call
 kept_call : (r : Reading) (c : Call) → IsKept r → 0 < length r.scripts → is_sound_call c ≡ true → is_named (world_of_value (value_in r)) c ≡ true →
@@ -119,7 +69,6 @@ kept_call : (r : Reading) (c : Call) → IsKept r → 0 < length r.scripts → i
 unfolding with_item
 kept_call r c kept some good names room = record {
   sound = sound_call (value_in r) c kept.sound some good names room;
-  things = rw (threads_call 0 r.scripts c) kept.things;
   placed = kept.placed;
 }
 
@@ -127,56 +76,63 @@ kept_call r c kept some good names room = record {
 abbrev pub known_in : Reading → KnownNames
 known_in r = known_names (names_in r.names) r.declared
 
+-- a word that names an object names a thing of that kind, which is no thread
+record IsObject (names : Names) (k : Kind) (i : ℕ) (w : List ℕ) : Type 0 where
+  named : IsNameOf names k i w
+  apart : same_kind k kind.Thread ≡ false
+
+is_object_named : (names : Names) (k : Kind) (w : List ℕ) (i : ℕ) → object_named names k w ≡ Ok i → IsObject names k i w
+is_object_named names kind.Queue w i e = record { named = number_says kind.Queue names w i e; apart = refl }
+is_object_named names kind.Fence w i e = record { named = number_says kind.Fence names w i e; apart = refl }
+is_object_named names kind.Resource w i e = record { named = number_says kind.Resource names w i e; apart = refl }
+is_object_named names kind.Allocator w i e = record { named = number_says kind.Allocator names w i e; apart = refl }
+is_object_named names kind.List w i e = record { named = number_says kind.List names w i e; apart = refl }
+is_object_named names kind.Thread w i e = cc
+
+-- the names of a kind, and how many things of it there are
+known_kind : (ns : List (List ℕ)) (ds : List Declared) (k : Kind) (i : ℕ) → same_kind k kind.Thread ≡ false →
+    known_of (known_names ns ds) k i ≡ name_at (names_of_kind k ns ds) i
+known_kind ns ds kind.Queue i apart = refl
+known_kind ns ds kind.Fence i apart = refl
+known_kind ns ds kind.Resource i apart = refl
+known_kind ns ds kind.Allocator i apart = refl
+known_kind ns ds kind.List i apart = refl
+known_kind ns ds kind.Thread i apart = cc
+
+pub counts_are : (ds : List Declared) (ss : List (List Call)) (k : Kind) → same_kind k kind.Thread ≡ false →
+    counts_in (record (objects_of ds) { scripts = ss }) k ≡ count_of k ds
+counts_are ds ss kind.Queue apart = queues_are ds
+counts_are ds ss kind.Fence apart = fences_are ds
+counts_are ds ss kind.Resource apart = resources_are ds
+counts_are ds ss kind.Allocator apart = allocators_are ds
+counts_are ds ss kind.List apart = lists_are ds
+counts_are ds ss kind.Thread apart = cc
+
 -- the name of a thing is the word that named it, and a new name is its own word
 pub are_called : (names : Names) (ds : List Declared) → ArePlaced names ds → AreCalled (naming_of names) (known_of (known_names (names_in names) ds))
 are_called names ds placed = record { things = things; new = λ w m e. (new_says names w m e).same }
   where
-    there : (k : Kind) (w : List ℕ) (i : ℕ) → same_kind k kind.Thread ≡ false → IsNameOf names k i w → name_at (names_of_kind k (names_in names) ds) i ≡ w
-    there k w i apart is = name_there (names_of_kind k (names_in names) ds) i w (placed k i w apart is)
-
     things : (k : Kind) (w : List ℕ) (i : ℕ) → object_named names k w ≡ Ok i → known_of (known_names (names_in names) ds) k i ≡ w
-    things kind.Queue w i e = there kind.Queue w i refl (number_says kind.Queue names w i e)
-    things kind.Fence w i e = there kind.Fence w i refl (number_says kind.Fence names w i e)
-    things kind.Resource w i e = there kind.Resource w i refl (number_says kind.Resource names w i e)
-    things kind.Allocator w i e = there kind.Allocator w i refl (number_says kind.Allocator names w i e)
-    things kind.List w i e = there kind.List w i refl (number_says kind.List names w i e)
-    things kind.Thread w i e = cc
+    things k w i e =
+        let is = is_object_named names k w i e in
+        known_kind (names_in names) ds k i is.apart
+        ∙ name_there (names_of_kind k (names_in names) ds) i w (placed k i w is.apart is.named)
 
 -- names are spelled well, and short
 pub short_names : (names : Names) → AreShortNames (naming_of names)
-short_names names = record { things = things; new = λ w m e. ((new_says names w m e).spelled, (new_says names w m e).short) }
-  where
-    spelled : (k : Kind) (w : List ℕ) (i : ℕ) → IsNameOf names k i w → (is_name w ≡ true) × (length w ≤ 32)
-    spelled k w i is = (is.spelled, is.short)
-
-    things : (k : Kind) (w : List ℕ) (i : ℕ) → object_named names k w ≡ Ok i → (is_name w ≡ true) × (length w ≤ 32)
-    things kind.Queue w i e = spelled kind.Queue w i (number_says kind.Queue names w i e)
-    things kind.Fence w i e = spelled kind.Fence w i (number_says kind.Fence names w i e)
-    things kind.Resource w i e = spelled kind.Resource w i (number_says kind.Resource names w i e)
-    things kind.Allocator w i e = spelled kind.Allocator w i (number_says kind.Allocator names w i e)
-    things kind.List w i e = spelled kind.List w i (number_says kind.List names w i e)
-    things kind.Thread w i e = cc
+short_names names = record {
+  things = λ k w i e. ((is_object_named names k w i e).named.spelled, (is_object_named names k w i e).named.short);
+  new = λ w m e. ((new_says names w m e).spelled, (new_says names w m e).short);
+}
 
 -- a number that a word names is one of an object
-module _ (r : Reading) (kept : IsKept r) where
-  number_below : (k : Kind) (i : ℕ) (w : List ℕ) (most : ℕ) → same_kind k kind.Thread ≡ false → IsNameOf r.names k i w →
-      most ≡ count_of k r.declared → nat_lt i most ≡ true
-  number_below k i w most apart name_is are =
-      let within : i < length (names_of_kind k (names_in r.names) r.declared) = slice_get_within
-      (names_of_kind k (names_in r.names) r.declared) i w (kept.placed k i w apart name_is) in
-      let long : length (names_in r.names) ≡ length r.declared + length r.scripts = kept.sound.named_all in
-      let counts = names_count k (names_in r.names) r.declared (omega (arith, long)) in
-      lt-ltb i most (omega (arith, within, counts, are))
-
-  all_below : (k : Kind) (w : List ℕ) (i : ℕ) → object_named r.names k w ≡ Ok i → nat_lt i (counts_in (world_of_value (value_in r)) k) ≡ true
-  all_below kind.Queue w i e = number_below kind.Queue i w (length (objects_of r.declared).queues) refl (number_says kind.Queue r.names w i e) (queues_are r.declared)
-  all_below kind.Fence w i e = number_below kind.Fence i w (length (objects_of r.declared).fences) refl (number_says kind.Fence r.names w i e) (fences_are r.declared)
-  all_below kind.Resource w i e =
-      number_below kind.Resource i w (length (objects_of r.declared).resources) refl (number_says kind.Resource r.names w i e) (resources_are r.declared)
-  all_below kind.Allocator w i e =
-      number_below kind.Allocator i w (length (objects_of r.declared).allocators) refl (number_says kind.Allocator r.names w i e) (allocators_are r.declared)
-  all_below kind.List w i e = number_below kind.List i w (length (objects_of r.declared).lists) refl (number_says kind.List r.names w i e) (lists_are r.declared)
-  all_below kind.Thread w i e = cc
+all_below : (r : Reading) → IsKept r → (k : Kind) (w : List ℕ) (i : ℕ) → object_named r.names k w ≡ Ok i →
+    nat_lt i (counts_in (world_of_value (value_in r)) k) ≡ true
+all_below r kept k w i e =
+    let is = is_object_named r.names k w i e in
+    let within = slice_get_within (names_of_kind k (names_in r.names) r.declared) i w (kept.placed k i w is.apart is.named) in
+    let counts = names_count k (names_in r.names) r.declared (omega (arith, kept.sound.named_all)) in
+    lt-ltb i (counts_in (world_of_value (value_in r)) k) (omega (arith, within, counts, counts_are r.declared r.scripts k is.apart))
 
 -- where a line may stand
 pub record Stands (r : Reading) (c : Class) : Type 0 where
@@ -187,23 +143,15 @@ pub record Stands (r : Reading) (c : Class) : Type 0 where
 -- a line that has no fault of place stands where it may
 pub stands : (r : Reading) (c : Class) → fault_of_place r c ≡ None → Stands r c
 unfolding fault_of_place
-stands r c e = by_second (is_second r c) refl e
+stands r c e =
+    let start : Option Cause = if r.begun || is_header c then None else Some cause.Form in
+    let first = no_cause (is_second r c) cause.Later (if is_misplaced r c then Some cause.Order else start) e in
+    let placed = no_cause (is_misplaced r c) cause.Order start first.1 in
+    record { first = first.0; placed = placed.0; begun = begun (r.begun || is_header c) placed.1 }
   where
-    by_start : (t : Bool) → is_second r c ≡ false → is_misplaced r c ≡ false → (r.begun || is_header c) ≡ t →
-        (if t then None else Some cause.Form) ≡ None → Stands r c
-    by_start true first at is e = record { first = first; placed = at; begun = is }
-    by_start false first at is e = cc
-
-    by_place : (t : Bool) → is_second r c ≡ false → is_misplaced r c ≡ t →
-        (if t then Some cause.Order else (if r.begun || is_header c then None else Some cause.Form)) ≡ None → Stands r c
-    by_place true first is e = cc
-    by_place false first is e = by_start (r.begun || is_header c) first is refl e
-
-    by_second : (t : Bool) → is_second r c ≡ t →
-        (if t then Some cause.Later else (if is_misplaced r c then Some cause.Order else (if r.begun || is_header c then None else Some cause.Form))) ≡ None →
-        Stands r c
-    by_second true is e = cc
-    by_second false is e = by_place (is_misplaced r c) is refl e
+    begun : (t : Bool) → (if t then None else Some cause.Form) ≡ None → t ≡ true
+    begun true e = refl
+    begun false e = cc
 
 -- a declaration stands before the threads, a call behind one
 pub no_threads : (r : Reading) → nat_lt 0 (length r.scripts) ≡ false → length r.scripts ≡ 0
@@ -233,11 +181,11 @@ module _ (r : Reading) (kept : IsKept r) where
   -- the first line and the last
   kept_begun : IsKept (with_item r Header)
   unfolding with_item
-  kept_begun = record { sound = kept.sound; things = kept.things; placed = kept.placed }
+  kept_begun = record { sound = kept.sound; placed = kept.placed }
 
   kept_ended : IsKept (with_item r Ends)
   unfolding with_item
-  kept_ended = record { sound = kept.sound; things = kept.things; placed = kept.placed }
+  kept_ended = record { sound = kept.sound; placed = kept.placed }
 
   -- an item whose line was read
   module _ (ws : List (List ℕ)) (in_time : is_later ws ≡ false) where

@@ -1,29 +1,17 @@
 -- What lines write is sound.
-use Rattle.std.proofs.Common.{ℕ, ◌≡◌, ◌⊎◌, inl, inr, List, [], ◌∷◌, Result, Ok, Err, None, ◌∙◌, ap, refl, sym, subst, arith, lit≤}
-use Rattle.std.proofs.Math.Logic.{∥∥₁_elim}
+use Rattle.trace_text.proofs.Vocabulary.{ℕ, ◌≡◌, ◌⊎◌, inl, inr, Bool, true, List, [], ◌∷◌, ◌++◌, length, Result, Ok, Err, None, ◌∙◌, ap, refl, sym, subst, arith, lit≤, ∥∥₁_elim, list_all, le-leb, props, Call, World, IsWorld, Item, Header, Declares, Starts, Calls, Ends, Declared, Reading, Cause, Trace, class_of, opening, and_then, fault_of_place, with_item, known_names, seen, IsSound, with_line, Value, with_lines, IsWritten, objects_of, world_of_value}
 use Rattle.std.specs.List.{IsDistinct}
-use Rattle.std.proofs.Props.{props}
-use Rattle.d3d_machine.specs.declared.calls.Call.{Call}
-use Rattle.d3d_machine.specs.declared.world.World.{World}
-use Rattle.d3d_machine.specs.World.{IsWorld}
-use Rattle.trace_text.specs.declared.object.Declared.{Declared}
-use Rattle.trace_text.specs.declared.reading.Reading.{Reading}
-use Rattle.line_forms.specs.declared.cause.Cause.{Cause}
-use Rattle.trace_text.specs.declared.trace.Trace.{Trace}
-use Rattle.trace_text.specs.Forms.{class_of}
-use Rattle.trace_text.specs.Reading.{opening, and_then, fault_of_place}
-use Rattle.trace_text.specs.Seen.{seen}
-use Rattle.trace_text.specs.Sound.{IsSound}
-use Rattle.trace_text.specs.Texts.{with_line}
-use Rattle.trace_text.specs.Values.{Value, with_lines, IsWritten}
-use Rattle.trace_text.specs.WorldOf.{objects_of, world_of_value}
+use Rattle.d3d_machine.specs.World.{HasOneQueueAtMost}
+use Rattle.trace_text.proofs.Fitting.{printed_line, short_again}
 use Rattle.trace_text.proofs.Own.{item_class, own}
-use Rattle.trace_text.proofs.Sound.{IsKept, stands, kept_item}
-use Rattle.trace_text.proofs.SoundWorlds.{sound_world}
+use Rattle.trace_text.proofs.PrintedLines.{IsShort, is_short_call, AreShortCalls}
+use Rattle.trace_text.proofs.Sound.{IsKept, known_in, Stands, stands, no_threads, object_place, kept_item}
+use Rattle.trace_text.proofs.SoundValues.{all_call}
+use Rattle.trace_text.proofs.SoundWorlds.{sound_world, few_queues_of}
 use Rattle.trace_text.proofs.Taking.{Takes, line_passes, item_reads}
 
 -- lines that are read one by one keep what each line keeps
-pub lines_keep : (P : Reading → Type 0) → ((r s : Reading) (line : List ℕ) → P r → with_line r line ≡ Ok s → P s) →
+lines_keep : (P : Reading → Type 0) → ((r s : Reading) (line : List ℕ) → P r → with_line r line ≡ Ok s → P s) →
     (lines : List (List ℕ)) (r s : Reading) → P r → with_lines r lines ≡ Ok s → P s
 unfolding with_lines
 lines_keep P keeps [] r s p e = let same : r ≡ s = cc in subst P same p
@@ -34,25 +22,66 @@ lines_keep P keeps (line ∷ lines) r s p e = by_line (with_line r line) refl (�
     by_line (Ok u) is more e = more u (keeps r u line p is) e
     by_line (Err c) is more e = cc
 
+-- an item that is taken stands where it may
+takes_stands : (r s : Reading) (line : List ℕ) (t : Takes r line s) → Stands r (item_class t.others.item)
+takes_stands r s line t =
+    let read = item_reads r.names t.others.form t.ws t.others.item t.others.means in
+    let class_is : class_of t.others.form ≡ item_class t.others.item = ap class_of read.form_is ∙ (own t.others.item).class_is in
+    stands r (item_class t.others.item) (subst (λ c. fault_of_place r c ≡ None) class_is t.others.in_place)
+
 -- a line of words keeps what is sound
 words_kept : (r s : Reading) (line : List ℕ) → IsKept r → Takes r line s → IsKept s
 words_kept r s line kept t =
     let taken = t.others in
     let read = item_reads r.names taken.form t.ws taken.item taken.means in
-    let class_is : class_of taken.form ≡ item_class taken.item = ap class_of read.form_is ∙ (own taken.item).class_is in
-    let place = stands r (item_class taken.item) (subst (λ c. fault_of_place r c ≡ None) class_is taken.in_place) in
-    subst IsKept taken.becomes (kept_item r kept t.ws taken.in_time taken.item read.reads place taken.within)
+    subst IsKept taken.becomes (kept_item r kept t.ws taken.in_time taken.item read.reads (takes_stands r s line t) taken.within)
+
+-- where no script is, no call is long
+none_short : (p : Call → Bool) (ss : List (List Call)) → length ss ≡ 0 → list_all (λ s. list_all p s) ss ≡ true
+none_short p [] none = refl
+none_short p (s ∷ ss) none = absurd (omega (arith, none))
+
+one_short : (p : Call → Bool) (ss : List (List Call)) → length ss ≡ 0 → list_all (λ s. list_all p s) (ss ++ [] ∷ []) ≡ true
+one_short p [] none = refl
+one_short p (s ∷ ss) none = absurd (omega (arith, none))
 
 -- a line keeps what is sound
-pub line_kept : (r s : Reading) (line : List ℕ) → IsKept r → with_line r line ≡ Ok s → IsKept s
+line_kept : (r s : Reading) (line : List ℕ) → IsKept r → with_line r line ≡ Ok s → IsKept s
 line_kept r s line kept e = by_line (line_passes r s line e).either
   where
     by_line : (r ≡ s) ⊎ Takes r line s → IsKept s
     by_line (inl same) = subst IsKept same kept
     by_line (inr t) = words_kept r s line kept t
 
+-- what was read is sound, and the lines of its calls are short
+record IsShortKept (r : Reading) : Type 0 where
+  kept : IsKept r
+  short : AreShortCalls (known_in r) r.scripts
+
+-- an item keeps the lines of calls short: before the first thread there are none, and behind it no name of an object comes
+short_item : (r : Reading) (i : Item) → AreShortCalls (known_in r) r.scripts → Stands r (item_class i) → IsShort (printed_line (known_in r) i) →
+    AreShortCalls (known_in (with_item r i)) (with_item r i).scripts
+unfolding with_item
+short_item r Header short at line = short
+short_item r (Declares n d) short at line =
+    none_short (is_short_call (known_in (with_item r (Declares n d)))) r.scripts (no_threads r (sym (object_place r d) ∙ at.placed))
+short_item r (Starts n) short at line = one_short (is_short_call (known_in (with_item r (Starts n)))) r.scripts (no_threads r at.first)
+short_item r (Calls c) short at line =
+    all_call (is_short_call (known_in r)) r.scripts c short (le-leb (length (printed_line (known_in r) (Calls c))) 4096 line)
+short_item r Ends short at line = short
+
+-- a line keeps them short
+line_short_kept : (r s : Reading) (line : List ℕ) → IsShortKept r → with_line r line ≡ Ok s → IsShortKept s
+line_short_kept r s line p e = record { kept = line_kept r s line p.kept e; short = by_line (line_passes r s line e).either }
+  where
+    by_line : (r ≡ s) ⊎ Takes r line s → AreShortCalls (known_in s) s.scripts
+    by_line (inl same) = subst (λ u. AreShortCalls (known_in u) u.scripts) same p.short
+    by_line (inr t) =
+        subst (λ u. AreShortCalls (known_in u) u.scripts) t.others.becomes
+        (short_item r t.others.item p.short (takes_stands r s line t) (short_again r s line p.kept t))
+
 -- nothing is sound
-pub opening_kept : IsKept opening
+opening_kept : IsKept opening
 unfolding IsDistinct
 opening_kept = record {
   sound = record {
@@ -69,15 +98,20 @@ opening_kept = record {
     few_calls = lit≤ tt;
     few_lists = lit≤ tt;
   };
-  things = refl;
   placed = λ k i w apart named. cc (named.found);
 }
 
--- what lines write is sound
+-- what lines write is sound, and the lines of its calls are short
+written_keeps : (v : Value) (w : IsWritten v) → IsShortKept w.written.reading
+written_keeps v w =
+    lines_keep IsShortKept line_short_kept w.lines opening w.written.reading (record { kept = opening_kept; short = refl }) w.written.reads
+
 pub written_is_sound : (v : Value) → IsWritten v → IsSound v
-written_is_sound v w =
-    let kept = lines_keep IsKept line_kept w.lines opening w.written.reading opening_kept w.written.reads in
-    subst IsSound w.written.says kept.sound
+written_is_sound v w = subst IsSound w.written.says (written_keeps v w).kept.sound
+
+pub written_calls : (v : Value) → IsWritten v → AreShortCalls (known_names v.names v.declared) v.scripts
+written_calls v w =
+    subst (λ (u : Value). AreShortCalls (known_names u.names u.declared) u.scripts) w.written.says (written_keeps v w).short
 
 -- that a value is sound has one proof
 sound_prop : (v : Value) → IsProp (IsSound v)
@@ -91,9 +125,22 @@ trace_is_sound t = ∥∥₁_elim t.written (sound_prop (seen t)) (written_is_so
 pub trace_is_world : (t : Trace) → IsWorld (world_of_value (seen t))
 trace_is_world t = sound_world (seen t) (trace_is_sound t)
 
+-- and has one queue at most
+trace_has_one_queue : (t : Trace) → HasOneQueueAtMost (world_of_value (seen t))
+trace_has_one_queue t = few_queues_of (seen t) (trace_is_sound t)
+
+-- the world of a trace by its parts
+world_by_parts : (t : Trace) (w : World) (ds : List Declared) (ss kept : List (List Call)) → ds ≡ t.declared → w ≡ objects_of ds →
+    kept ≡ t.scripts → ss ≡ kept → record w { scripts = ss } ≡ world_of_value (seen t)
+world_by_parts t w ds ss kept declared objects scripts copied = rw (objects, declared, copied, scripts) refl
+
 -- the same by the parts of the world
 pub parts_are_world : (t : Trace) (w : World) (ds : List Declared) (ss kept : List (List Call)) → ds ≡ t.declared → w ≡ objects_of ds →
     kept ≡ t.scripts → ss ≡ kept → IsWorld (record w { scripts = ss })
 parts_are_world t w ds ss kept declared objects scripts copied =
-    let same : record w { scripts = ss } ≡ world_of_value (seen t) = rw (objects, declared, copied, scripts) refl in
-    subst IsWorld (sym same) (trace_is_world t)
+    subst IsWorld (sym (world_by_parts t w ds ss kept declared objects scripts copied)) (trace_is_world t)
+
+pub parts_have_one_queue : (t : Trace) (w : World) (ds : List Declared) (ss kept : List (List Call)) → ds ≡ t.declared → w ≡ objects_of ds →
+    kept ≡ t.scripts → ss ≡ kept → HasOneQueueAtMost (record w { scripts = ss })
+parts_have_one_queue t w ds ss kept declared objects scripts copied =
+    subst HasOneQueueAtMost (sym (world_by_parts t w ds ss kept declared objects scripts copied)) (trace_has_one_queue t)

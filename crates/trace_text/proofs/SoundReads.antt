@@ -1,33 +1,11 @@
 -- From what was read, the lines of the rest of a sound value give that value: the objects and the thread.
-use Rattle.std.proofs.Common.{ℕ, ◌≡◌, ◌≤◌, ◌+◌, ◌&&◌, ◌∙◌, nat_le, nat_lt, Bool, true, false, List, [], ◌∷◌, ◌++◌, length, map, drop, refl, sym, ap, subst, arith, append_assoc, append-nil, length-append, if◌then◌else◌}
-use Rattle.std.specs.List.{All, list_all, IsDistinct}
-use Rattle.std.specs.Str.{bytes_eq}
-use Rattle.std.proofs.lemmas.Bool.{and_parts, or_from, lt-leb, le-ltb}
-use Rattle.std.proofs.lemmas.List.{map_push, length-map}
-use Rattle.std.proofs.lemmas.List.Folds.{list_all-append}
-use Rattle.std.proofs.lemmas.List.Sums.{sum_by-append, sum_by-cons}
-use Rattle.d3d_machine.specs.declared.calls.Call.{Call}
-use Rattle.trace_words.specs.Lines.{pieces_of}
-use Rattle.trace_text.specs.declared.item.Item.TheVariants.{Header, Declares, Starts, Calls, Ends}
-use Rattle.trace_text.specs.declared.object.Declared.{Declared}
-use Rattle.trace_text.specs.declared.reading.Reading.{Reading}
-use Rattle.line_forms.specs.declared.kind.Kind.{Kind}
+use Rattle.trace_text.proofs.Vocabulary.{ℕ, ◌≡◌, ◌≤◌, ◌+◌, ◌&&◌, ◌∙◌, nat_le, nat_lt, Bool, true, false, List, [], ◌∷◌, ◌++◌, length, map, drop, refl, sym, ap, subst, arith, append_assoc, append-nil, length-append, if◌then◌else◌, list_all, bytes_eq, and_parts, or_from, lt-leb, le-ltb, map_push, length-map, list_all-append, sum_by-append, sum_by-cons, Call, Item, Header, Declares, Starts, Calls, Ends, Declared, Reading, Kind, Thing, items_of, object_items, thread_items, kind_of, count_of, most_of, words_of_object, words_of_all, next_thing, is_one_too_many, known_names, opening, with_item, is_fit_name, is_sound_object, IsSound, same_kind, Value}
+use Rattle.std.specs.List.{IsDistinct}
 use Rattle.line_forms.specs.declared.kind.Kind.TheVariants as kind
-use Rattle.trace_text.specs.declared.things.Thing.{Thing}
-use Rattle.trace_text.specs.Items.{items_of, object_items, thread_items, trace_text}
-use Rattle.trace_text.specs.Kinds.{kind_of, count_of, most_of, words_of_object, words_of_all, next_thing, is_one_too_many}
-use Rattle.trace_text.specs.Known.{known_names}
-use Rattle.trace_text.specs.Laws.{HasShortLines}
-use Rattle.trace_text.specs.Reading.{opening, with_item}
-use Rattle.trace_text.specs.Sound.{is_fit_name, is_sound_object, IsSound}
-use Rattle.trace_text.specs.Things.{same_kind}
-use Rattle.trace_text.specs.Values.{Value}
 use Rattle.trace_text.proofs.NamesBack.{AreNamed, fresh_among, named_object, named_thread}
 use Rattle.trace_text.proofs.Naming.{names_in, insert_new}
 use Rattle.trace_text.proofs.Says.{kind_same}
-use Rattle.trace_text.proofs.PrintedItems.{printed_lines}
-use Rattle.trace_text.proofs.PrintedTraces.{text_is, WritesItself}
-use Rattle.trace_text.proofs.Reaching.{AreShort, Reaches, reach_item, reach_end, InCalls, reach_calls}
+use Rattle.trace_text.proofs.Reaching.{Reaches, reach_item, reach_end, InCalls, reach_calls}
 use Rattle.trace_text.proofs.Opening.{IsOpen, header_fits, CanName, object_fits, thread_fits}
 
 -- what all items pass, one in their midst passes
@@ -124,48 +102,43 @@ names_left v sound ns ds r at =
     )
 
 -- the lines of what is left
-abbrev lines_left : Value → List (List ℕ) → List Declared → List (List ℕ)
-lines_left v ns ds =
-    printed_lines (known_names v.names v.declared) (object_items ns ds ++ (thread_items (drop (length ds) ns) v.scripts ++ Ends ∷ []))
+abbrev items_left : Value → List (List ℕ) → List Declared → List Item
+items_left v ns ds = object_items ns ds ++ (thread_items (drop (length ds) ns) v.scripts ++ Ends ∷ [])
 
 -- the lines of the only thread, where there is one, and the last line
 reach_thread : (v : Value) → IsSound v → (ns : List (List ℕ)) (r : Reading) → InObjects v ns [] r → (ss : List (List Call)) → v.scripts ≡ ss →
-    AreShort (printed_lines (known_names v.names v.declared) (thread_items ns ss ++ Ends ∷ [])) →
-    Reaches r (printed_lines (known_names v.names v.declared) (thread_items ns ss ++ Ends ∷ [])) v
+    Reaches r (thread_items ns ss ++ Ends ∷ []) v
 unfolding thread_items
-reach_thread v sound [] r at [] is short =
+reach_thread v sound [] r at [] is =
     let names : names_in r.names ≡ v.names = sym (append-nil (names_in r.names)) ∙ at.names in
     let objects : r.declared ≡ v.declared = sym (append-nil r.declared) ∙ at.objects in
     let scripts : r.scripts ≡ v.scripts = at.none ∙ sym is in
-    reach_end r (known_names v.names v.declared) v at.may (rw (names, objects, scripts) refl) short
-reach_thread v sound (n ∷ ns) r at [] is short = absurd (omega (arith, names_left v sound (n ∷ ns) [] r at, ap length is))
-reach_thread v sound [] r at (cs ∷ []) is short = absurd (omega (arith, names_left v sound [] [] r at, ap length is))
-reach_thread v sound (n ∷ []) r at (cs ∷ []) is short =
-    let known = known_names v.names v.declared in
+    reach_end r v at.may (rw (names, objects, scripts) refl)
+reach_thread v sound (n ∷ ns) r at [] is = absurd (omega (arith, names_left v sound (n ∷ ns) [] r at, ap length is))
+reach_thread v sound [] r at (cs ∷ []) is = absurd (omega (arith, names_left v sound [] [] r at, ap length is))
+reach_thread v sound (n ∷ []) r at (cs ∷ []) is =
     let can = can_name v sound n [] [] r at in
     let same : (map Calls cs ++ []) ++ Ends ∷ [] ≡ map Calls cs ++ Ends ∷ [] = ap (λ items. items ++ Ends ∷ []) (append-nil (map Calls cs)) in
-    reach_item r known (Starts n) (printed_lines known ((map Calls cs ++ []) ++ Ends ∷ [])) v (thread_fits r known n can) short
-    (λ s. subst (λ items. Reaches (with_item r (Starts n)) (printed_lines known items) v) (sym same)
-    (reach_calls v sound cs [] (with_item r (Starts n)) (thread_in v n cs r can at is) (subst (λ items. AreShort (printed_lines known items)) same s)))
-reach_thread v sound (n ∷ m ∷ ns) r at (cs ∷ []) is short = absurd (omega (arith, names_left v sound (n ∷ m ∷ ns) [] r at, ap length is))
-reach_thread v sound ns r at (cs ∷ bs ∷ ss) is short = absurd (omega (arith, ap length is, sound.few_threads))
+    reach_item r (Starts n) ((map Calls cs ++ []) ++ Ends ∷ []) v (thread_fits r (known_names v.names v.declared) n can)
+    (subst (λ items. Reaches (with_item r (Starts n)) items v) (sym same)
+    (reach_calls v sound cs [] (with_item r (Starts n)) (thread_in v n cs r can at is)))
+reach_thread v sound (n ∷ m ∷ ns) r at (cs ∷ []) is = absurd (omega (arith, names_left v sound (n ∷ m ∷ ns) [] r at, ap length is))
+reach_thread v sound ns r at (cs ∷ bs ∷ ss) is = absurd (omega (arith, ap length is, sound.few_threads))
 
 -- the lines of the objects, and those behind them
-reach_objects : (v : Value) → IsSound v → (ds : List Declared) (ns : List (List ℕ)) (r : Reading) → InObjects v ns ds r → AreShort (lines_left v ns ds) →
-    Reaches r (lines_left v ns ds) v
+reach_objects : (v : Value) → IsSound v → (ds : List Declared) (ns : List (List ℕ)) (r : Reading) → InObjects v ns ds r → Reaches r (items_left v ns ds) v
 unfolding object_items
-reach_objects v sound [] [] r at short = reach_thread v sound [] r at v.scripts refl short
-reach_objects v sound [] (n ∷ ns) r at short = reach_thread v sound (n ∷ ns) r at v.scripts refl short
-reach_objects v sound (d ∷ ds) [] r at short = absurd (omega (arith, names_left v sound [] (d ∷ ds) r at))
-reach_objects v sound (d ∷ ds) (n ∷ ns) r at short =
+reach_objects v sound [] [] r at = reach_thread v sound [] r at v.scripts refl
+reach_objects v sound [] (n ∷ ns) r at = reach_thread v sound (n ∷ ns) r at v.scripts refl
+reach_objects v sound (d ∷ ds) [] r at = absurd (omega (arith, names_left v sound [] (d ∷ ds) r at))
+reach_objects v sound (d ∷ ds) (n ∷ ns) r at =
     let can = can_name v sound n ns (d ∷ ds) r at in
     let good = one_passes is_sound_object r.declared ds v.declared d at.objects sound.objects in
     let first : same_kind kind.Queue (kind_of d) ≡ true → count_of kind.Queue r.declared ≡ 0 =
     λ is. omega (arith, rw is at (count_midst kind.Queue r.declared ds v.declared d at.objects), sound.few_queues) in
     let room = object_room r.declared ds v.declared d at.objects (sound.few_objects (kind_of d)) sound.few_words in
-    reach_item r (known_names v.names v.declared) (Declares n d) (lines_left v ns ds) v
-    (object_fits r (known_names v.names v.declared) n can d good first room) short
-    (λ s. reach_objects v sound ds ns (with_item r (Declares n d)) (object_in v n ns d ds r can at) s)
+    reach_item r (Declares n d) (items_left v ns ds) v (object_fits r (known_names v.names v.declared) n can d good first room)
+    (reach_objects v sound ds ns (with_item r (Declares n d)) (object_in v n ns d ds r can at))
 
 -- nothing but the first line was read
 start : (v : Value) → InObjects v v.names v.declared (with_item opening Header)
@@ -179,17 +152,8 @@ start v = record {
   objects = refl;
 }
 
--- the lines of its own text write each sound value
-pub sound_writes : (v : Value) → IsSound v → HasShortLines v → WritesItself v
-unfolding trace_text
-sound_writes v sound short =
-    let known = known_names v.names v.declared in
-    let text = text_is known (items_of v) in
-    let all = reach_item opening known Header (lines_left v v.names v.declared) v (header_fits known)
-    (subst (λ some. All (λ line. length line ≤ 4096) (pieces_of some)) text short)
-    (λ s. reach_objects v sound v.declared v.names (with_item opening Header) (start v) s) in
-    record {
-      lines = printed_lines known (items_of v);
-      write = record { reading = all.reading; reads = all.reads; ended = all.ended; says = all.says };
-      text = text;
-    }
+-- the items of a sound value may come one behind the other
+pub sound_runs : (v : Value) → IsSound v → Reaches opening (items_of v) v
+sound_runs v sound =
+    reach_item opening Header (items_left v v.names v.declared) v (header_fits (known_names v.names v.declared))
+    (reach_objects v sound v.declared v.names (with_item opening Header) (start v))

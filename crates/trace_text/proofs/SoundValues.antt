@@ -1,24 +1,7 @@
 -- A sound value with one more object, thread or call.
-use Rattle.std.proofs.Common.{ℕ, suc, ◌≡◌, ◌<◌, ◌≤◌, ◌+◌, ◌&&◌, ◌∙◌, Bool, true, false, List, [], ◌∷◌, ◌++◌, length, sum_by, nat_le, nat_lt, refl, sym, ap, arith, length-append, if◌then◌else◌}
-use Rattle.std.specs.Cmp.{IsEquivalence}
-use Rattle.std.specs.Cmp.Rules.{comparing}
-use Rattle.std.specs.List.{list_all, list_any}
-use Rattle.std.specs.Str.{bytes_eq}
-use Rattle.std.proofs.lemmas.Bool.{and_parts, and_from, or_parts, leb-false, ltb-false}
-use Rattle.std.proofs.lemmas.List.Folds.{list_all-append}
-use Rattle.std.proofs.lemmas.List.Sums.{sum_by-cons, sum_by_push}
+use Rattle.trace_text.proofs.Vocabulary.{ℕ, suc, ◌≡◌, ◌<◌, ◌≤◌, ◌+◌, ◌&&◌, ◌∙◌, Bool, true, false, List, [], ◌∷◌, ◌++◌, length, sum_by, nat_le, nat_lt, refl, sym, ap, arith, length-append, if◌then◌else◌, IsEquivalence, comparing, list_all, list_any, bytes_eq, and_parts, and_from, or_parts, leb-false, ltb-false, list_all-append, sum_by-cons, sum_by_push, Call, is_named, are_named, Declared, Kind, kind_of, count_of, most_of, words_of_object, words_of_all, is_one_too_many, lists_of_call, calls_in_all, lists_in_all, is_call_too_many, with_call, is_fit_name, is_sound_object, is_sound_call, IsSound, same_kind, Value, world_of_value}
 use Rattle.std.proofs.lemmas.Map.Keys.{IsDistinct-push}
-use Rattle.d3d_machine.specs.declared.calls.Call.{Call}
-use Rattle.d3d_machine.specs.World.{is_named, are_named}
-use Rattle.trace_text.specs.declared.object.Declared.{Declared}
-use Rattle.line_forms.specs.declared.kind.Kind.{Kind}
 use Rattle.line_forms.specs.declared.kind.Kind.TheVariants as kind
-use Rattle.trace_text.specs.Kinds.{kind_of, count_of, most_of, words_of_object, words_of_all, is_one_too_many}
-use Rattle.trace_text.specs.Scripts.{lists_of_call, calls_in_all, lists_in_all, is_call_too_many, with_call}
-use Rattle.trace_text.specs.Sound.{is_fit_name, is_sound_object, is_sound_call, IsSound}
-use Rattle.trace_text.specs.Things.{same_kind}
-use Rattle.trace_text.specs.Values.{Value}
-use Rattle.trace_text.specs.WorldOf.{world_of_value}
 use Rattle.trace_text.proofs.Says.{kinds_same}
 
 -- one more item that passes
@@ -125,7 +108,7 @@ sum_call f n (s ∷ t ∷ ss) c more some =
     omega (arith, sum_by-cons f s (with_call (t ∷ ss) c), sum_by-cons f s (t ∷ ss), sum_call f n (t ∷ ss) c more (omega arith))
 
 -- all calls with one more that passes
-all_call : (p : Call → Bool) (ss : List (List Call)) (c : Call) → list_all (λ s. list_all p s) ss ≡ true → p c ≡ true →
+pub all_call : (p : Call → Bool) (ss : List (List Call)) (c : Call) → list_all (λ s. list_all p s) ss ≡ true → p c ≡ true →
     list_all (λ s. list_all p s) (with_call ss c) ≡ true
 unfolding with_call
 all_call p [] c all one = refl

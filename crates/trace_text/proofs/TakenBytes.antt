@@ -1,20 +1,7 @@
 -- The first bytes of a text decide what it says.
-use Rattle.std.proofs.Common.{ℕ, zero, suc, ◌≡◌, ◌<◌, ◌≤◌, ◌+◌, ◌-◌, ◌∙◌, eqb, nat_lt, Bool, true, false, List, [], ◌∷◌, ◌++◌, length, take, take_all, length-take-le, Result, Ok, Err, inl, inr, arith, refl, sym, ap, subst, append_assoc, append-nil}
-use Rattle.std.specs.List.{All}
+use Rattle.trace_text.proofs.Vocabulary.{ℕ, zero, suc, ◌≡◌, ◌<◌, ◌≤◌, ◌+◌, ◌-◌, ◌∙◌, eqb, nat_lt, Bool, true, false, List, [], ◌∷◌, ◌++◌, length, take, take_all, length-take-le, Result, Ok, Err, inl, inr, arith, refl, sym, ap, subst, append_assoc, append-nil, All, eqb-true, leb_tells, take-append-le, All-append, All-nil, All-take, slice_split_at, slice_split_none, CutsOff, pieces_of, Reading, Cause, opening, with_line, with_last, sized, at_line, pieces_from, reading_of, valued, value_of}
 use Rattle.std.proofs.Math.Seq.{take-append-add}
-use Rattle.std.proofs.lemmas.Bool.{eqb-true}
-use Rattle.std.proofs.lemmas.Bool.Decides.{leb_tells}
-use Rattle.std.proofs.lemmas.List.{take-append-le}
-use Rattle.std.proofs.lemmas.List.Elements.{All-append, All-nil, All-take}
-use Rattle.std.proofs.lemmas.List.Splits.{slice_split_at, slice_split_none}
-use Rattle.trace_words.specs.Cut.{CutsOff}
-use Rattle.trace_words.specs.Lines.{pieces_of}
-use Rattle.trace_text.specs.declared.reading.Reading.{Reading}
-use Rattle.line_forms.specs.declared.cause.Cause.{Cause}
 use Rattle.line_forms.specs.declared.cause.Cause.TheVariants as cause
-use Rattle.trace_text.specs.Reading.{opening}
-use Rattle.trace_text.specs.Texts.{with_line, with_last, sized, at_line, pieces_from, reading_of}
-use Rattle.trace_text.specs.Values.{valued, value_of}
 use Rattle.trace_text.proofs.TextSteps.{cut_step}
 
 -- no byte of a line is a line feed

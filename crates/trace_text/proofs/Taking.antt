@@ -1,24 +1,10 @@
 -- What a line means that is taken.
-use Rattle.std.proofs.Common.{ℕ, ◌≡◌, ◌⊎◌, Bool, true, false, not, List, Option, Some, None, Result, Ok, Err, inl, inr, refl, sym, ap, subst, ◌∙◌, if◌then◌else◌}
-use Rattle.trace_words.specs.Lines.{words_of, is_plain}
-use Rattle.line_forms.specs.declared.cause.Cause.{Cause}
+use Rattle.trace_text.proofs.Vocabulary.{ℕ, ◌≡◌, ◌⊎◌, Bool, true, false, not, List, Option, Some, None, Result, Ok, Err, inl, inr, refl, sym, ap, subst, ◌∙◌, if◌then◌else◌, words_of, is_plain, Cause, Line, form_for, read_row, reads_again, Form, Item, Reading, Formed, item_formed, made, form_row, forms, class_of, is_later, fault_of_place, placed_of, is_formless, is_over, with_item, taken_of, and_then, naming_of, read_item, meant_of, by_form, with_words, is_skipped, with_line, Names}
 use Rattle.line_forms.specs.declared.cause.Cause.TheVariants as cause
-use Rattle.line_forms.specs.declared.form.Line.{Line}
 use Rattle.line_forms.specs.Causes.{wrapped}
-use Rattle.line_forms.specs.Finding.{form_for}
-use Rattle.line_forms.specs.Reading.{read_row}
-use Rattle.line_forms.proofs.Good.{reads_again}
 use Rattle.line_forms.proofs.Results.{made_of}
-use Rattle.trace_text.specs.declared.form.Form.{Form}
-use Rattle.trace_text.specs.declared.item.Item.{Item}
-use Rattle.trace_text.specs.declared.reading.Reading.{Reading}
-use Rattle.trace_text.specs.Formed.{Formed, item_formed, made}
-use Rattle.trace_text.specs.Forms.{form_row, forms, class_of}
-use Rattle.trace_text.specs.Later.{is_later}
-use Rattle.trace_text.specs.Reading.{fault_of_place, placed_of, is_formless, is_over, with_item, taken_of, and_then, naming_of, read_item, meant_of, by_form, with_words}
-use Rattle.trace_text.specs.Texts.{is_skipped, with_line}
-use Rattle.trace_text.specs.Things.{Names}
 use Rattle.trace_text.proofs.Own.{own, own_line}
+use Rattle.trace_text.proofs.Passing.{stopped, not_false}
 
 -- words that are read as an item's line, of which they have the form
 pub record IsRead (names : Names) (f : Form) (ws : List (List ℕ)) (i : Item) : Type 0 where
@@ -79,20 +65,10 @@ meant_by r s f ws (Some c) (Err d) in_time form place found e = formless (is_for
     formless : (t : Bool) → and_then (if t then Err d else Err c) (taken_of r) ≡ Ok s → TakesWords r ws s
     formless true e = cc
     formless false e = cc
-meant_by r s f ws None (Ok i) in_time form place found e = over (is_over r i) refl e
-  where
-    over : (t : Bool) → is_over r i ≡ t → (if t then Err cause.Limit else Ok (with_item r i)) ≡ Ok s → TakesWords r ws s
-    over true is e = cc
-    over false is e = record {
-      form = f;
-      item = i;
-      in_time = in_time;
-      found = form;
-      in_place = place;
-      means = found;
-      within = is;
-      becomes = cc;
-    }
+meant_by r s f ws None (Ok i) in_time form place found e =
+    let over = stopped (is_over r i) cause.Limit (Ok (with_item r i)) s e in
+    let becomes : with_item r i ≡ s = cc (over.1) in
+    record { form = f; item = i; in_time = in_time; found = form; in_place = place; means = found; within = over.0; becomes = becomes }
 
 -- words of a form, where they have one
 form_taken : (r s : Reading) (ws : List (List ℕ)) (found : Option Form) → is_later ws ≡ false → form_for form_row forms ws ≡ found →
@@ -105,61 +81,35 @@ form_taken r s ws (Some f) in_time found e =
 -- the words of a line
 words_taken : (r s : Reading) (ws : List (List ℕ)) → with_words r ws ≡ Ok s → TakesWords r ws s
 unfolding with_words
-words_taken r s ws e = later (is_later ws) refl e
-  where
-    later : (t : Bool) → is_later ws ≡ t → (if t then Err cause.Later else by_form r (form_for form_row forms ws) ws) ≡ Ok s → TakesWords r ws s
-    later true is e = cc
-    later false is e = form_taken r s ws (form_for form_row forms ws) is refl e
+words_taken r s ws e =
+    let both = stopped (is_later ws) cause.Later (by_form r (form_for form_row forms ws) ws) s e in
+    form_taken r s ws (form_for form_row forms ws) both.0 refl both.1
 
 -- a line that is taken means something, or is a comment
 pub line_passes : (r s : Reading) (line : List ℕ) → with_line r line ≡ Ok s → Passes r line s
 unfolding with_line
-line_passes r s line e = plain (is_plain line) refl e
+line_passes r s line e =
+    let comment : Result Reading Cause = if is_skipped line then Ok r else with_words r (words_of line) in
+    let first = stopped (not (is_plain line)) cause.Line (if r.ended then Err cause.After else comment) s e in
+    let second = stopped r.ended cause.After comment s first.1 in
+    let plain = not_false (is_plain line) first.0 in
+    record { plain = plain; open_yet = second.0; either = spoken (is_skipped line) plain second.0 refl second.1 }
   where
-    spoken : (t : Bool) → is_plain line ≡ true → r.ended ≡ false → is_skipped line ≡ t →
-        (if t then Ok r else with_words r (words_of line)) ≡ Ok s → Passes r line s
-    spoken true is_p is_o is e = record { plain = is_p; open_yet = is_o; either = inl cc }
+    spoken : (t : Bool) → is_plain line ≡ true → r.ended ≡ false → is_skipped line ≡ t → (if t then Ok r else with_words r (words_of line)) ≡ Ok s →
+        (r ≡ s) ⊎ Takes r line s
+    spoken true is_p is_o is e = inl cc
     spoken false is_p is_o is e =
-        let all = words_taken r s (words_of line) e in
-        record {
-          plain = is_p;
-          open_yet = is_o;
-          either = inr (record {
-            ws = words_of line;
-            plain = is_p;
-            open_yet = is_o;
-            spoken = is;
-            words = refl;
-            others = all;
-          });
-        }
-
-    opened : (t : Bool) → is_plain line ≡ true → r.ended ≡ t →
-        (if t then Err cause.After else (if is_skipped line then Ok r else with_words r (words_of line))) ≡ Ok s → Passes r line s
-    opened true is_p is e = cc
-    opened false is_p is e = spoken (is_skipped line) is_p is refl e
-
-    plain : (t : Bool) → is_plain line ≡ t →
-        (if not t then Err cause.Line else (if r.ended then Err cause.After else (if is_skipped line then Ok r else with_words r (words_of line)))) ≡ Ok s →
-        Passes r line s
-    plain false is e = cc
-    plain true is e = opened r.ended is refl e
+        inr (record { ws = words_of line; plain = is_p; open_yet = is_o; spoken = is; words = refl; others = words_taken r s (words_of line) e })
 
 -- the way back: what the words mean
 meant_is : (r s : Reading) (ws : List (List ℕ)) (t : TakesWords r ws s) → meant_of r t.form ws ≡ Ok t.item
 unfolding meant_of placed_of
 meant_is r s ws t = rw (t.in_place, t.means) refl
 
--- no limit is passed
-over_not : (t : Bool) (r : Reading) (i : Item) (s : Reading) → t ≡ false → with_item r i ≡ s →
-    (if t then Err cause.Limit else Ok (with_item r i)) ≡ Ok s
-over_not true r i s e becomes = cc
-over_not false r i s e becomes = ap Ok becomes
-
 -- what is taken
 taken_is : (r s : Reading) (i : Item) → is_over r i ≡ false → with_item r i ≡ s → taken_of r i ≡ Ok s
 unfolding taken_of
-taken_is r s i within becomes = over_not (is_over r i) r i s within becomes
+taken_is r s i within becomes = rw within (ap Ok becomes)
 
 -- the words of a line
 words_is : (r s : Reading) (ws : List (List ℕ)) → TakesWords r ws s → with_words r ws ≡ Ok s
@@ -169,15 +119,11 @@ words_is r s ws t = rw (t.in_time, t.found, meant_is r s ws t) (taken_is r s t.i
 -- a line that is plain, not behind the last, and no comment
 chosen : (p o k : Bool) (r s : Reading) (found : Result Reading Cause) → p ≡ true → o ≡ false → k ≡ false → found ≡ Ok s →
     (if not p then Err cause.Line else (if o then Err cause.After else (if k then Ok r else found))) ≡ Ok s
-chosen false o k r s found is_p is_o is_k e = cc
-chosen true true k r s found is_p is_o is_k e = cc
-chosen true false true r s found is_p is_o is_k e = cc
-chosen true false false r s found is_p is_o is_k e = e
+chosen p o k r s found is_p is_o is_k e = rw (is_p, is_o, is_k) e
 
 -- what means something is taken
 pub taken_line : (r s : Reading) (line : List ℕ) → Takes r line s → with_line r line ≡ Ok s
 unfolding with_line
 taken_line r s line t =
-    let meant : with_words r (words_of line) ≡ Ok s =
-    ap (with_words r) t.words ∙ words_is r s t.ws t.others in
-    chosen (is_plain line) r.ended (is_skipped line) r s (with_words r (words_of line)) t.plain t.open_yet t.spoken meant
+    chosen (is_plain line) r.ended (is_skipped line) r s (with_words r (words_of line)) t.plain t.open_yet t.spoken
+    (ap (with_words r) t.words ∙ words_is r s t.ws t.others)

@@ -1,16 +1,9 @@
 -- Reading a text, one line at a time.
-use Rattle.std.proofs.Common.{ℕ, ◌≡◌, ◌+◌, ◌-◌, ◌≤◌, ◌∙◌, Bool, true, false, List, [], ◌∷◌, length, Result, Ok, Err, eqb, arith, refl, ap}
-use Rattle.std.specs.List.{slice_split, onto_first}
+use Rattle.trace_text.proofs.Vocabulary.{ℕ, ◌≡◌, ◌+◌, ◌-◌, ◌≤◌, ◌∙◌, Bool, true, false, List, [], ◌∷◌, length, Result, Ok, Err, eqb, arith, refl, ap, slice_split, onto_first, slice_split-cons_yes, slice_split-cons_no, CutsOff, pieces_of, Cause, Reading, with_line, with_last, sized, at_line, pieces_from}
 use Rattle.std.proofs.lemmas.List.{length-append}
-use Rattle.std.proofs.lemmas.List.Splits.{slice_split-cons_yes, slice_split-cons_no}
-use Rattle.trace_words.specs.Cut.{CutsOff}
-use Rattle.trace_words.specs.Lines.{pieces_of}
 use Rattle.trace_text.specs.declared.line_fault.LineFault.{LineFault}
 use Rattle.trace_text.specs.declared.line_fault.LineFault.TheVariants.{Refused, Memory}
-use Rattle.line_forms.specs.declared.cause.Cause.{Cause}
-use Rattle.trace_text.specs.declared.reading.Reading.{Reading}
 use Rattle.trace_text.specs.Gives.{Leaves, Answers, fault_at}
-use Rattle.trace_text.specs.Texts.{with_line, with_last, sized, at_line, pieces_from}
 
 -- a list of pieces has a first one
 pub record HasFirst (xs : List (List ℕ)) : Type 0 where

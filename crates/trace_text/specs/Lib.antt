@@ -22,3 +22,5 @@ pub mod Grammar
 pub mod History
 pub mod Left
 pub mod Output
+pub mod StalledLines
+pub mod Spelling

@@ -1,28 +1,7 @@
--- The scripts of threads: calls and limits.
-use Rattle.std.specs.Prelude.{ℕ, ◌+◌, ◌||◌, nat_lt, nat_le, List, [], ◌∷◌, ◌++◌, length, Bool, sum_by}
+-- The scripts of threads, and one more call.
+use Rattle.std.specs.Prelude.{◌+◌, ◌||◌, nat_lt, nat_le, List, [], ◌∷◌, ◌++◌, Bool}
 use Rattle.d3d_machine.specs.declared.calls.Call.{Call}
-use Rattle.d3d_machine.specs.declared.calls.Call.TheVariants as call
-
--- how many lists a call names to be executed, each naming counted
-abbrev pub lists_of_call : Call → ℕ
-lists_of_call (call.Recording l what) = 0
-lists_of_call (call.Close l) = 0
-lists_of_call (call.Reset l a) = 0
-lists_of_call (call.Execute q ls) = length ls
-lists_of_call (call.Signal q f v) = 0
-lists_of_call (call.HostSignal f v) = 0
-lists_of_call (call.HostWait f v) = 0
-lists_of_call (call.Value f) = 0
-lists_of_call (call.Write b o ws) = 0
-lists_of_call (call.Read b o n) = 0
-
--- the calls of all threads
-abbrev pub calls_in_all : List (List Call) → ℕ
-calls_in_all ss = sum_by length ss
-
--- the lists that all calls name to be executed
-abbrev pub lists_in_all : List (List Call) → ℕ
-lists_in_all ss = sum_by (λ s. sum_by lists_of_call s) ss
+use Rattle.d3d_machine.specs.Counts.{lists_of_call, calls_in_all, lists_in_all}
 
 -- one more call would be too many, or name too many lists with the others
 unfoldable pub is_call_too_many : List (List Call) → Call → Bool

@@ -17,7 +17,7 @@ use Rattle.line_forms.specs.Sound.{is_sound_line}
 use Rattle.trace_text.specs.Formed.{call_formed}
 use Rattle.trace_text.specs.Forms.{form_row}
 use Rattle.trace_text.specs.Kinds.{count_of, most_of, words_of_all}
-use Rattle.trace_text.specs.Scripts.{calls_in_all, lists_in_all}
+use Rattle.d3d_machine.specs.Counts.{calls_in_all, lists_in_all}
 use Rattle.trace_text.specs.Values.{Value}
 use Rattle.trace_text.specs.WorldOf.{world_of_value}
 

@@ -11,11 +11,11 @@ use Rattle.d3d_machine.specs.declared.events.Event.{Event}
 use Rattle.d3d_machine.specs.declared.events.Event.TheVariants as event
 use Rattle.trace_text.specs.declared.names.Ending.{Ending}
 use Rattle.trace_text.specs.declared.names.Names.{Names}
-use Rattle.trace_text.specs.declared.status.Rule.{Rule}
+use Rattle.d3d_judge.specs.declared.rules.Rule.{Rule}
 use Rattle.trace_text.specs.declared.status.Status.{Status}
 use Rattle.trace_text.specs.declared.status.Status.TheVariants as status
 use Rattle.trace_text.specs.Names.{name_at}
-use Rattle.trace_text.specs.Status.{rule_word}
+use Rattle.d3d_judge.specs.Rules.{rule_word}
 
 -- the lines of a thread's call of that number, by its reply: none where the call has nothing to say
 unfoldable pub reply_lines : List ℕ → ℕ → Reply → List (List (List ℕ))

@@ -1,5 +1,5 @@
 -- The world of a trace.
-use Rattle.std.specs.Prelude.{ℕ, ◌/◌, List, [], ◌∷◌, flat_map, Option, Some, None, if◌then◌else◌}
+use Rattle.std.specs.Prelude.{ℕ, ◌/◌, List, [], ◌∷◌, ◌++◌, Option, Some, None, if◌then◌else◌}
 use Rattle.dx_base.specs.declared.kinds.ListType.{ListType}
 use Rattle.d3d_machine.specs.declared.world.Resource.{Resource}
 use Rattle.d3d_machine.specs.declared.world.Resource.TheVariants.{Buffer}
@@ -46,16 +46,28 @@ list_in (declared.Buffer h n) = []
 list_in (declared.Allocator t) = []
 list_in (declared.List t) = t ∷ []
 
--- the declared objects by kind, each in order of declaration, and no scripts
-unfoldable pub objects_of : List Declared → World
-objects_of ds = record {
-  queues = flat_map queue_in ds;
-  fences = flat_map fence_in ds;
-  resources = flat_map resource_in ds;
-  allocators = flat_map allocator_in ds;
-  lists = flat_map list_in ds;
-  scripts = [];
+-- a world with one more object behind those of its kind; whether it is refused may depend on what the world has
+abbrev pub with_object : World → Declared → World
+with_object w d = record w {
+  queues = w.queues ++ queue_in d;
+  fences = w.fences ++ fence_in d;
+  resources = w.resources ++ resource_in d;
+  allocators = w.allocators ++ allocator_in d;
+  lists = w.lists ++ list_in d;
 }
+
+-- a world with declared objects, one behind the other
+unfoldable pub objects_from : World → List Declared → World
+objects_from w [] = w
+objects_from w (d ∷ ds) = objects_from (with_object w d) ds
+
+-- a world of nothing
+abbrev pub no_objects : World
+no_objects = record { queues = []; fences = []; resources = []; allocators = []; lists = []; scripts = [] }
+
+-- the declared objects by kind, each in order of declaration, and no scripts
+abbrev pub objects_of : List Declared → World
+objects_of ds = objects_from no_objects ds
 
 -- the world of a trace: its objects, and the script of each thread
 abbrev pub world_of_value : Value → World

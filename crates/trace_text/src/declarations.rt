@@ -87,16 +87,16 @@ impl Declarations {
 
     /// One more object would be too many, or have too many words with the others.
     #[tactic(auto, unfolding(crate::specs::Kinds::is_one_too_many))]
-    pub fn is_one_too_many(&self, object: Declared) -> bool
-        ensures { result ≡ is_one_too_many self.now object }
+    pub fn is_one_too_many(&self, object: &Declared) -> bool
+        ensures { result ≡ is_one_too_many self.now object.now }
     {
         most(object.kind()) <= self.count(object.kind())
             || u64::from(ALL_WORDS) < self.words + object.words()
     }
 
     /// What the next object's name names.
-    pub fn next(&self, object: Declared) -> Thing
-        ensures { result ≡ next_thing self.now object }
+    pub fn next(&self, object: &Declared) -> Thing
+        ensures { result ≡ next_thing self.now object.now }
     {
         Thing {
             kind: object.kind(),

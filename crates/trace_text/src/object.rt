@@ -30,8 +30,8 @@ pub fn is_refused_size(bytes: u64) -> bool
 
 impl Declared {
     /// What kind of thing the object is.
-    pub fn kind(self) -> Kind
-        ensures { result ≡ kind_of self }
+    pub fn kind(&self) -> Kind
+        ensures { result ≡ kind_of self.now }
     {
         match self {
             Declared::Queue { kind: _ } => Kind::Queue,
@@ -43,13 +43,17 @@ impl Declared {
     }
 
     /// The object's words; none where its creation is refused.
-    pub fn words(self) -> u64
-        ensures value { result ≡ words_of_object self }
+    pub fn words(&self) -> u64
+        ensures value { result ≡ words_of_object self.now }
         ensures small { result ≤ 262144 }
     {
         match self {
             Declared::Buffer { home: _, bytes } => {
-                if is_refused_size(bytes) { 0 } else { bytes / 4 }
+                if is_refused_size(*bytes) {
+                    0
+                } else {
+                    *bytes / 4
+                }
             }
             Declared::Queue { kind: _ }
             | Declared::Fence { value: _ }

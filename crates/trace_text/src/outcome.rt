@@ -55,11 +55,11 @@ impl Status {
 }
 
 /// The creation of the object is refused.
-fn is_refused(object: Declared) -> bool
-    ensures { result ≡ is_refused object }
+fn is_refused(object: &Declared) -> bool
+    ensures { result ≡ is_refused object.now }
 {
     match object {
-        Declared::Buffer { home: _, bytes } => is_refused_size(bytes),
+        Declared::Buffer { home: _, bytes } => is_refused_size(*bytes),
         Declared::Queue { kind: _ }
         | Declared::Fence { value: _ }
         | Declared::Allocator { kind: _ }
@@ -75,7 +75,7 @@ pub fn refused_of(alloc: Global, trace: &Trace) -> Result<Seq<u32>, Memory>
     let declared = trace.declared.as_slice();
     let mut places = Seq::new(alloc);
     for at in 0..declared.len() {
-        if is_refused(declared[at]) {
+        if is_refused(&declared[at]) {
             places.push(number_at(at)?)?;
         }
     }

@@ -6,7 +6,8 @@ ghost use Rattle.trace_text.specs.Formed.{item_text};
 ghost use Rattle.trace_text.specs.Seen.{seen};
 
 use crate::known::{Known, behind, nth};
-use crate::printed::{put_calls, put_end, put_header, put_objects, put_start};
+use crate::printed::{put_end, put_header, put_objects, put_start};
+use crate::printed_calls::put_calls;
 use crate::trace::Trace;
 use d3d_machine::Call;
 use dx_base::{Memory, Seq};

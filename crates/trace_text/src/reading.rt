@@ -6,7 +6,7 @@ ghost use Rattle.trace_text.specs.Gives.{Gives, Leaves};
 ghost use Rattle.trace_text.specs.Reading.{opening, has_queue, has_thread, is_second, is_misplaced, fault_of_place, is_formless, placed_of, is_over, with_item, taken_of, and_then, read_item, meant_of, by_form, with_words};
 
 use crate::declarations::Declarations;
-use crate::form::{Class, Form, all_forms};
+use crate::form::{Class, Form, form_of};
 use crate::item::{Item, item_of};
 use crate::later::is_later;
 use crate::line_fault::LineFault;
@@ -16,7 +16,7 @@ use crate::scripts::Scripts;
 use crate::things::Thing;
 use d3d_machine::Call;
 use dx_base::{Memory, THREADS};
-use line_forms::{Cause, Kind, form_for, read_line};
+use line_forms::{Cause, Kind, read_line};
 use std::alloc::Global;
 use trace_words::Name;
 
@@ -146,7 +146,7 @@ impl Reading {
     {
         match item {
             Item::Header => false,
-            Item::Declares(_, object) => self.declared.is_one_too_many(*object),
+            Item::Declares(_, object) => self.declared.is_one_too_many(object),
             Item::Starts(_) => THREADS <= self.scripts.len(),
             Item::Calls(call) => self.scripts.is_call_too_many(call),
             Item::Ends => false,
@@ -159,7 +159,7 @@ impl Reading {
         requires { is_over self.old (item.Declares name object) ≡ false }
         ensures { OnOk result (self.new ≡ with_item self.old (item.Declares name object)) }
     {
-        let thing = self.declared.next(object);
+        let thing = self.declared.next(&object);
         self.names.declare(name, thing)?;
         self.declared.push(object)
     }
@@ -258,6 +258,6 @@ impl Reading {
         if is_later(words) {
             return Err(LineFault::Refused(Cause::Later));
         }
-        self.take_form(alloc, form_for(all_forms(), words), words)
+        self.take_form(alloc, form_of(words), words)
     }
 }

@@ -1,7 +1,8 @@
 //! The scripts of threads, counted.
 
 ghost use Rattle.std.specs.Prelude.{◌≡◌, ◌++◌, [], ◌∷◌, length, false, OnOk};
-ghost use Rattle.trace_text.specs.Scripts.{lists_of_call, is_call_too_many, with_call};
+ghost use Rattle.d3d_machine.specs.Counts.{lists_of_call};
+ghost use Rattle.trace_text.specs.Scripts.{is_call_too_many, with_call};
 
 use d3d_machine::Call;
 use dx_base::{CALLS, EXECUTED_LISTS, Memory, Seq};
@@ -19,7 +20,7 @@ pub struct Scripts {
 impl Model for Scripts {
     ghost use Rattle.std.specs.Prelude.{List, ◌≡◌, ◌≤◌};
     ghost use Rattle.d3d_machine.specs.declared.calls.Call.{Call};
-    ghost use Rattle.trace_text.specs.Scripts.{calls_in_all, lists_in_all};
+    ghost use Rattle.d3d_machine.specs.Counts.{calls_in_all, lists_in_all};
 
     ghost Value = { List (List Call) };
 

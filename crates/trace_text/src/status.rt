@@ -1,62 +1,12 @@
 //! What a run ends with: its status, its verdict, and the report of both with the steps that led there.
 
 ghost use Rattle.std.specs.Prelude.{◌≡◌};
-ghost use Rattle.trace_text.specs.Status.{exit_code_of, rule_word};
+ghost use Rattle.trace_text.specs.Status.{exit_code_of};
 
+use d3d_judge::{Rule, Verdict};
 use d3d_machine::Event;
 use dx_base::{Step, Torn};
 use line_forms::Cause;
-
-/// A rule of the judges of Direct3D.
-#[derive(Clone, Copy, Debug, PartialEq, Eq)]
-pub enum Rule {
-    B1,
-    B2,
-    B3,
-    B4,
-    B5,
-    B6,
-    B7,
-    B8,
-    B9,
-    B10,
-    B11,
-    B12,
-    B13,
-}
-
-impl Rule {
-    /// The rule's name.
-    pub fn word(self) -> &'static str
-        ensures { result.now ≡ rule_word self }
-    {
-        match self {
-            Rule::B1 => "B1",
-            Rule::B2 => "B2",
-            Rule::B3 => "B3",
-            Rule::B4 => "B4",
-            Rule::B5 => "B5",
-            Rule::B6 => "B6",
-            Rule::B7 => "B7",
-            Rule::B8 => "B8",
-            Rule::B9 => "B9",
-            Rule::B10 => "B10",
-            Rule::B11 => "B11",
-            Rule::B12 => "B12",
-            Rule::B13 => "B13",
-        }
-    }
-}
-
-/// What the judges say of a history.
-#[derive(Clone, Copy, Debug, PartialEq, Eq)]
-pub enum Verdict {
-    /// No event breaks a rule.
-    Clean,
-    /// The first event that breaks a rule, by its place in the history counted from 1, and the least rule that
-    /// it breaks.
-    Broken(Rule, u64),
-}
 
 /// How a run ended.
 #[derive(Clone, Copy, Debug, PartialEq, Eq)]

@@ -10,7 +10,8 @@ ghost use Rattle.trace_text.specs.Text.{reply_lines, answer_lines, replies_by, r
 ghost use Rattle.trace_text.specs.Values.{Value};
 
 use crate::names::{Ending, Names};
-use crate::status::{Rule, Status};
+use crate::status::Status;
+use d3d_judge::Rule;
 use d3d_machine::{Event, Reply};
 use dx_base::{Memory, Seq, Torn};
 use line_forms::{Cause, end_line, end_with_words, put, put_hex, put_next, put_number};

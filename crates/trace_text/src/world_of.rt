@@ -1,10 +1,10 @@
 //! The world of a trace.
 
-ghost use Rattle.std.specs.Prelude.{◌≡◌, [], ◌∷◌, ◌++◌, IfOk, OnOk};
-ghost use Rattle.d3d_machine.specs.World.{IsWorld};
+ghost use Rattle.std.specs.Prelude.{◌≡◌, [], ◌∷◌, IfOk, OnOk};
+ghost use Rattle.d3d_machine.specs.World.{IsWorld, HasOneQueueAtMost};
 ghost use Rattle.trace_text.specs.declared.object.Declared.TheVariants as declared_object;
 ghost use Rattle.trace_text.specs.Seen.{seen};
-ghost use Rattle.trace_text.specs.WorldOf.{queue_in, fence_in, resource_in, allocator_in, list_in, objects_of, world_of_value};
+ghost use Rattle.trace_text.specs.WorldOf.{resource_in, with_object, objects_of, world_of_value};
 
 use crate::object::{Declared, is_refused_size};
 use crate::trace::Trace;
@@ -26,26 +26,20 @@ fn buffer(home: Home, bytes: u64) -> Option<Resource>
 }
 
 /// Adds an object behind those of its kind.
-fn add(world: &mut World, object: Declared) -> Result<(), Memory>
-    ensures { OnOk result (world.new ≡ record world.old {
-      queues = world.old.queues ++ queue_in object;
-      fences = world.old.fences ++ fence_in object;
-      resources = world.old.resources ++ resource_in object;
-      allocators = world.old.allocators ++ allocator_in object;
-      lists = world.old.lists ++ list_in object;
-    }) }
+fn add(world: &mut World, object: &Declared) -> Result<(), Memory>
+    ensures { OnOk result (world.new ≡ with_object world.old object.now) }
 {
     match object {
-        Declared::Queue { kind } => world.queues.push(kind),
-        Declared::Fence { value } => world.fences.push(value),
-        Declared::Buffer { home, bytes } => world.resources.push(buffer(home, bytes)),
-        Declared::Allocator { kind } => world.allocators.push(kind),
-        Declared::List { kind } => world.lists.push(kind),
+        Declared::Queue { kind } => world.queues.push(*kind),
+        Declared::Fence { value } => world.fences.push(*value),
+        Declared::Buffer { home, bytes } => world.resources.push(buffer(*home, *bytes)),
+        Declared::Allocator { kind } => world.allocators.push(*kind),
+        Declared::List { kind } => world.lists.push(*kind),
     }
 }
 
-/// The declared objects by kind, and no scripts.
-#[tactic(auto, unfolding(crate::specs::WorldOf::objects_of))]
+/// The declared objects by kind, and no scripts: each is added to the world of those before it.
+#[tactic(auto, unfolding(crate::specs::WorldOf::objects_from))]
 fn objects(alloc: Global, declared: &[Declared]) -> Result<World, Memory>
     ensures { IfOk result (λ w. w ≡ objects_of declared.now) }
 {
@@ -58,7 +52,7 @@ fn objects(alloc: Global, declared: &[Declared]) -> Result<World, Memory>
         scripts: Seq::new(alloc),
     };
     for object in declared {
-        add(&mut world, *object)?;
+        add(&mut world, object)?;
     }
     Ok(world)
 }
@@ -86,10 +80,11 @@ fn copied_scripts(alloc: Global, scripts: &[Seq<Call>]) -> Result<Seq<Seq<Call>>
 }
 
 /// The world of a trace: its objects by kind in order of declaration, where a buffer whose creation is refused is
-/// dead, and the script of each thread. It is a valid world.
+/// dead, and the script of each thread. It is a valid world, and has one queue at most.
 pub fn world(alloc: Global, trace: &Trace) -> Result<World, Memory>
     ensures value { IfOk result (λ w. w ≡ world_of_value (seen trace.now)) }
     ensures valid { IfOk result (λ w. IsWorld w) }
+    ensures queues { IfOk result (λ w. HasOneQueueAtMost w) }
 {
     let mut world = objects(alloc, trace.declared.as_slice())?;
     world.scripts = copied_scripts(alloc, trace.scripts.as_slice())?;

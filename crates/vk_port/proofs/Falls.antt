@@ -1,5 +1,6 @@
--- Each step that is taken leaves fewer steps.
+-- Each step that is taken leaves one step fewer.
 use Rattle.std.proofs.Common.{◌≡◌, ℕ, zero, suc, ◌+◌, ◌-◌, ◌<◌, ◌≤◌, ◌==◌, Bool, true, false, List, [], ◌∷◌, ◌++◌, map, length, drop, replicate, set, refl, sym, ap, subst, arith, add-one, eq-eqb, true≢false, Option, Some, slice_get, unwrap_or}
+use Rattle.std.specs.List.{list_all}
 use Rattle.std.proofs.lemmas.Bool.{ne_eqb, eqb-true, and_parts}
 use Rattle.std.proofs.lemmas.Option.{none-some, slice_get_within, get_or_from_slice_get, slice_get-get_or}
 use Rattle.dx_base.specs.Lists.{changed_at}
@@ -10,7 +11,7 @@ use Rattle.vk_port.specs.declared.lanes.Running.{Running}
 use Rattle.vk_port.specs.declared.steps.Stepped.{Stepped}
 use Rattle.vk_port.specs.declared.steps.Stepped.TheVariants.{Passed, Ran, Bumped, Free}
 use Rattle.vk_port.specs.After.{with_done, place_of, lane_after_run, lane_after_pass, lane_after_bump, started, lane_after_submit, after_step, after_submit}
-use Rattle.vk_port.specs.Enabled.{enabled_steps, undone, unmarked}
+use Rattle.vk_port.specs.Enabled.{enabled_steps, undone, unmarked, all_done}
 use Rattle.vk_port.specs.Journal.{of_queue, first_number, are_numbered}
 use Rattle.vk_port.specs.Left.{batches_left, lanes_left, steps_left}
 use Rattle.vk_port.specs.Meaning.{IsEnabled}
@@ -53,13 +54,21 @@ run_left f (suc passed) (suc place) (x ∷ rs) r is less =
     let later : suc (batches_left passed (changed_at f place rs)) ≡ batches_left passed rs = run_left f passed place rs r is less in
     omega (arith, later)
 
--- the first batch has ended
-bump_left : (passed : ℕ) (rs : List Running) (r : Running) → slice_get rs 0 ≡ Some r → 0 < passed → batches_left (passed - 1) (drop 1 rs) < batches_left passed rs
-bump_left passed [] r is some = absurd (none-some r is)
-bump_left zero (x ∷ rs) r is some = absurd (omega (arith, some))
-bump_left (suc passed) (x ∷ rs) r is some =
+-- of a batch all of whose commands are done nothing is undone
+none_undone : (cs : List VkCommand) (done : List Bool) → list_all (λ mark. mark) done ≡ true → length (unmarked cs done) ≡ 0
+none_undone [] done all = refl
+none_undone (c ∷ cs) [] all = refl
+none_undone (c ∷ cs) (true ∷ done) all = none_undone cs done all
+none_undone (c ∷ cs) (false ∷ done) all = absurd (true≢false (sym all))
+
+-- the first batch, all of whose commands are done, has ended
+bump_left : (passed : ℕ) (rs : List Running) (r : Running) → slice_get rs 0 ≡ Some r → 0 < passed → all_done r ≡ true → suc (batches_left (passed - 1) (drop 1 rs)) ≡ batches_left passed rs
+bump_left passed [] r is some all = absurd (none-some r is)
+bump_left zero (x ∷ rs) r is some all = absurd (omega (arith, some))
+bump_left (suc passed) (x ∷ rs) r is some all =
     let same : suc passed - 1 ≡ passed = omega arith in
-    rw same (omega arith)
+    let none : length (undone x) ≡ 0 = subst (λ (y : Running). length (undone y) ≡ 0) (sym (same_item x r is)) (none_undone r.batch.commands r.done all) in
+    rw same (omega (arith, none))
 
 -- the steps left of a lane
 abbrev pub lane_left : Lane → ℕ
@@ -110,8 +119,8 @@ valid_place v valid q lane there place r is =
     place_is (first_number q + kept.finished) lane.batches place r
     (rw kept.are_last (numbered_later (first_number q) kept.finished (of_queue q v.journal) (valid.numbered q))) is
 
--- each step that can be taken leaves fewer steps
-falls_when : (v : VkState) (s : Stepped) → IsValid v → IsEnabled v s → steps_left (after_step v s) < steps_left v
+-- each step that can be taken leaves one step fewer
+falls_when : (v : VkState) (s : Stepped) → IsValid v → IsEnabled v s → suc (steps_left (after_step v s)) ≡ steps_left v
 falls_when v (Passed q n) valid e =
     let changed : lanes_left (changed_at lane_after_pass q v.lanes) + lane_left e.lane ≡ lanes_left v.lanes + lane_left (lane_after_pass e.lane) = lanes_changed lane_after_pass q v.lanes e.lane e.there in
     let less : suc (batches_left (suc e.lane.passed) e.lane.batches) ≡ batches_left e.lane.passed e.lane.batches = pass_left e.lane.passed e.lane.batches (slice_get_within e.lane.batches e.lane.passed e.next e.is_next) in
@@ -127,12 +136,12 @@ falls_when v (Ran q n k) valid e =
     omega (arith, changed, less, same)
 falls_when v (Bumped q n) valid e =
     let changed : lanes_left (changed_at lane_after_bump q v.lanes) + lane_left e.lane ≡ lanes_left v.lanes + lane_left (lane_after_bump e.lane) = lanes_changed lane_after_bump q v.lanes e.lane e.there in
-    let less : batches_left (e.lane.passed - 1) (drop 1 e.lane.batches) < lane_left e.lane = bump_left e.lane.passed e.lane.batches e.first e.is_first e.passed in
+    let less : suc (batches_left (e.lane.passed - 1) (drop 1 e.lane.batches)) ≡ lane_left e.lane = bump_left e.lane.passed e.lane.batches e.first e.is_first e.passed e.done in
     omega (arith, changed, less)
 falls_when v Free valid e = absurd e
 
--- each step that can be taken leaves fewer steps
-pub falls : (v : VkState) → IsValid v → (k : ℕ) (s : Stepped) → slice_get (enabled_steps v) k ≡ Some s → steps_left (after_step v s) < steps_left v
+-- each step that can be taken leaves one step fewer
+pub falls : (v : VkState) → IsValid v → (k : ℕ) (s : Stepped) → slice_get (enabled_steps v) k ≡ Some s → suc (steps_left (after_step v s)) ≡ steps_left v
 falls v valid k s is = falls_when v s valid (enabled_means v k s is)
 
 -- all commands of a batch are left at first

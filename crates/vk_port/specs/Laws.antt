@@ -19,9 +19,9 @@ EachMeans = (v : VkState) (k : ℕ) (s : Stepped) → slice_get (enabled_steps v
 abbrev pub EachIsOffered : Type 0
 EachIsOffered = (v : VkState) (s : Stepped) → IsEnabled v s → (k : ℕ) × (slice_get (enabled_steps v) k ≡ Some s)
 
--- each step that is taken leaves fewer steps
+-- each step that is taken leaves one step fewer
 abbrev pub EachFalls : Type 0
-EachFalls = (v : VkState) → IsValid v → (k : ℕ) (s : Stepped) → slice_get (enabled_steps v) k ≡ Some s → steps_left (after_step v s) < steps_left v
+EachFalls = (v : VkState) → IsValid v → (k : ℕ) (s : Stepped) → slice_get (enabled_steps v) k ≡ Some s → steps_left (after_step v s) + 1 ≡ steps_left v
 
 -- a batch that is submitted adds its steps
 abbrev pub SubmissionsAdd : Type 0

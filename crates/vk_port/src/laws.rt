@@ -15,7 +15,7 @@ pub fn what_may_be_done_is_offered()
     ensures { EachIsOffered }
 {}
 
-/// Each step that is taken leaves fewer steps.
+/// Each step that is taken leaves one step fewer.
 pub fn each_step_leaves_fewer()
     ensures { EachFalls }
 {}

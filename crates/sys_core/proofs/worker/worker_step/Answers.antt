@@ -94,7 +94,7 @@ returns-clause-keeps g c =
     let counted : queued c.count_submitted.new.held ≡ submitted_one found.0 (queued c.next_batch.new.held) =
     at_some (slice_get c.next_batch.new.held.operations.items 0) found.0 (λ o. queued c.count_submitted.new.held ≡ submitted_one o (queued c.next_batch.new.held))
     (ap (λ (x : Queued). slice_get x.operations 0) c.next_batch.ensures.same ∙ found.1.head) c.count_submitted.ensures in
-    step.keeps_next g.D.VkDevice.state g.D.VkDevice.plan_of c.args.world.now c.args.history.now.items c.args.parts.now c.args.device.now c.requires.keeps c.args.queue.0 y c.count_submitted.new.held found.0 c.in_ok-batch.batch c.submit.new.self c.requires.queue at c.at_mut-held.ensures.value found.1 batch
+    step.keeps_next g.D.VkDevice.state g.D.VkDevice.plan_of c.args.world.now c.args.history.now.items c.args.parts.now c.args.device.now c.requires.keeps c.requires.queues c.args.queue.0 y c.count_submitted.new.held found.0 c.in_ok-batch.batch c.submit.new.self c.requires.queue at c.at_mut-held.ensures.value found.1 batch
     c.in_ok-submit.ensures.state c.submit.ensures.plan (counted ∙ ap (submitted_one found.0) c.next_batch.ensures.same)
 
 pub returns-clause-state : goal.returns-clause-state
@@ -105,4 +105,4 @@ returns-clause-state g c =
     step.next_found g.D.VkDevice.state g.D.VkDevice.plan_of c.args.world.now c.args.history.now.items c.args.parts.now c.args.device.now c.requires.keeps c.args.queue.0 y c.requires.queue c.requires.ready at in
     let batch : c.in_ok-batch.batch ≡ batch_by c.args.world.now c.args.queue.0 (y.submitted + 1) y.last_signal found.0 =
     at_some (slice_get y.operations.items 0) found.0 (λ o. c.in_ok-batch.batch ≡ batch_by c.args.world.now c.args.queue.0 (y.submitted + 1) y.last_signal o) found.1.head c.in_ok-batch.ensures.batch in
-    step.state_next g.D.VkDevice.state g.D.VkDevice.plan_of c.args.world.now c.args.history.now.items c.args.parts.now c.args.device.now c.requires.keeps c.args.queue.0 y found.0 c.in_ok-batch.batch (g.D.VkDevice.state c.submit.new.self) c.requires.queue found.1 batch c.in_ok-submit.ensures.state
+    step.state_next g.D.VkDevice.state g.D.VkDevice.plan_of c.args.world.now c.args.history.now.items c.args.parts.now c.args.device.now c.requires.keeps c.requires.queues c.args.queue.0 y found.0 c.in_ok-batch.batch (g.D.VkDevice.state c.submit.new.self) c.requires.queue found.1 batch c.in_ok-submit.ensures.state

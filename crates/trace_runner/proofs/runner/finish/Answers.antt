@@ -8,32 +8,35 @@ pub returns : goal.returns
 returns g c before rest cause went =
     subst (λ d. Ran c.args.sys.world (record {
       faults = (before, g.D.VkDevice.faults d);
-      rest = rest;
+      rest = (rest, g.D.VkDevice.rest_of d);
       choices = c.args.log.now.choices.items;
       taken = c.args.log.now.taken.items;
       history = c.into_parts-history.result.0.items;
       fences = c.ending_of-status.result.1;
       device = g.D.VkDevice.state d;
       offered = g.D.VkDevice.offered d;
+      plan = g.D.VkDevice.plan_of d;
     }) c.ending_of-status.result.0) (sym c.into_parts-history.ensures.device)
     (subst (λ h. Ran c.args.sys.world (record {
       faults = (before, g.D.VkDevice.faults c.args.sys.device);
-      rest = rest;
+      rest = (rest, g.D.VkDevice.rest_of c.args.sys.device);
       choices = c.args.log.now.choices.items;
       taken = c.args.log.now.taken.items;
       history = h;
       fences = c.ending_of-status.result.1;
       device = g.D.VkDevice.state c.args.sys.device;
       offered = g.D.VkDevice.offered c.args.sys.device;
+      plan = g.D.VkDevice.plan_of c.args.sys.device;
     }) c.ending_of-status.result.0) (sym c.into_parts-history.ensures.history)
     (ran_end c.args.sys.world (record {
       faults = (before, g.D.VkDevice.faults c.args.sys.device);
-      rest = rest;
+      rest = (rest, g.D.VkDevice.rest_of c.args.sys.device);
       choices = c.args.log.now.choices.items;
       taken = c.args.log.now.taken.items;
       history = c.args.sys.history;
       fences = c.ending_of-status.result.1;
       device = g.D.VkDevice.state c.args.sys.device;
       offered = g.D.VkDevice.offered c.args.sys.device;
+      plan = g.D.VkDevice.plan_of c.args.sys.device;
     }) c.ending_of-status.result.0 c.args.end went c.requires.system c.requires.whole c.requires.over c.requires.last c.requires.equal cause
     c.ending_of-status.ensures))

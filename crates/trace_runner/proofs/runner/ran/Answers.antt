@@ -2,7 +2,7 @@
 use Rattle.std.proofs.Common.{◌∙◌, sym, ap, subst, Ok, Err}
 use Rattle.trace_text.specs.Seen.{seen, IsRead}
 use Rattle.trace_text.specs.Values.{value_of}
-use Rattle.trace_runner.proofs.Concluding.{says_ran, given_value, refusal_says}
+use Rattle.trace_runner.proofs.Concluding.{says_ran, given_value, refusal_says, is_run, says_some}
 use Rattle.trace_runner.proofs.runner.ran.Goals as goal
 
 pub returns-in-Ok-read_trace-clause-says : goal.returns-in-Ok-read_trace-clause-says
@@ -32,5 +32,18 @@ returns-in-Err-Refused-clause-says g c =
         events = ap (λ o. o.history) c.stopped-in-Err-Refused.ensures.outcome;
         batches = ap (λ d. (g.D.VkDevice.state d).journal) c.stopped-in-Err-Refused.ensures.device ∙ c.requires.new;
       };
+      no_plan = ap g.D.VkDevice.plan_of c.stopped-in-Err-Refused.ensures.device ∙ c.requires.no_plan;
     })
     (ap (λ o. o.status) c.stopped-in-Err-Refused.ensures.outcome)
+
+pub returns-in-Ok-read_trace-clause-unrun : goal.returns-in-Ok-read_trace-clause-unrun
+returns-in-Ok-read_trace-clause-unrun g c = λ unrun. absurd (is_run _ _ _ _ c.run_trace.ensures.ran unrun)
+
+pub returns-in-Ok-read_trace-clause-not_given : goal.returns-in-Ok-read_trace-clause-not_given
+returns-in-Ok-read_trace-clause-not_given g c = λ none.
+    absurd (none (record {
+      good = record { said = c.in-Ok.said; good = sym c.in-Ok.ensures };
+      says = says_some (g.S.Source.left c.args.source.now) (seen c.in-Ok-read_trace.trace)
+          (given_value (g.S.Source.left c.args.source.now) c.in-Ok-read_all.bytes.items c.as_slice.result.now (Ok (seen c.in-Ok-read_trace.trace)) c.as_slice.ensures.value
+          c.in-Ok-read_all.ensures.bytes c.in-Ok-read_trace.ensures);
+    }))

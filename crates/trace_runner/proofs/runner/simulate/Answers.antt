@@ -1,10 +1,10 @@
 -- The report says of the run what the status says whose text was written.
-use Rattle.std.proofs.Common.{sym, subst, refl, map}
+use Rattle.std.proofs.Common.{◌∙◌, sym, subst, refl, map}
 use Rattle.std.specs.Option.{option_map}
 use Rattle.std.specs.Prelude.{string_bytes}
 use Rattle.trace_text.specs.Seen.{seen}
-use Rattle.trace_runner.specs.Report.{IsReport, IsWritten, left_by}
-use Rattle.trace_runner.proofs.Concluding.{reported, refused_of}
+use Rattle.trace_runner.specs.Report.{IsReport, IsWritten, IsUnrun, left_by}
+use Rattle.trace_runner.proofs.Concluding.{reported, refused_of, unrun_meant, complete_of}
 use Rattle.trace_runner.proofs.runner.simulate.Goals as goal
 
 pub returns-clause-report : goal.returns-clause-report
@@ -15,13 +15,14 @@ returns-clause-report g c =
       source = (g.S.Source.faults c.args.source.now, g.S.Source.faults c.ran-ended.new.source);
     }) (g.K.Sink.faults c.args.sink.now, g.K.Sink.faults c.write_output-status.new.sink) (g.K.Sink.held c.args.sink.now) (g.K.Sink.held c.write_output-status.new.sink) (λ f. record {
       faults = (g.D.VkDevice.faults c.args.device, g.D.VkDevice.faults d);
-      rest = g.D.VkDevice.rest_of c.args.device;
+      rest = (g.D.VkDevice.rest_of c.args.device, g.D.VkDevice.rest_of d);
       choices = c.report_of.result.choices.items;
       taken = c.report_of.result.taken.items;
       history = c.report_of.result.history.items;
       fences = f;
       device = g.D.VkDevice.state d;
       offered = g.D.VkDevice.offered d;
+      plan = g.D.VkDevice.plan_of d;
     }) c.report_of.result.status) (sym c.report_of.ensures.device)
     (subst (λ cs. IsReport (record {
       words = map string_bytes c.args.words.now;
@@ -29,13 +30,14 @@ returns-clause-report g c =
       source = (g.S.Source.faults c.args.source.now, g.S.Source.faults c.ran-ended.new.source);
     }) (g.K.Sink.faults c.args.sink.now, g.K.Sink.faults c.write_output-status.new.sink) (g.K.Sink.held c.args.sink.now) (g.K.Sink.held c.write_output-status.new.sink) (λ f. record {
       faults = (g.D.VkDevice.faults c.args.device, g.D.VkDevice.faults c.ran-ended.result.device);
-      rest = g.D.VkDevice.rest_of c.args.device;
+      rest = (g.D.VkDevice.rest_of c.args.device, g.D.VkDevice.rest_of c.ran-ended.result.device);
       choices = cs;
       taken = c.report_of.result.taken.items;
       history = c.report_of.result.history.items;
       fences = f;
       device = g.D.VkDevice.state c.ran-ended.result.device;
       offered = g.D.VkDevice.offered c.ran-ended.result.device;
+      plan = g.D.VkDevice.plan_of c.ran-ended.result.device;
     }) c.report_of.result.status) (sym c.report_of.ensures.choices)
     (subst (λ ks. IsReport (record {
       words = map string_bytes c.args.words.now;
@@ -43,13 +45,14 @@ returns-clause-report g c =
       source = (g.S.Source.faults c.args.source.now, g.S.Source.faults c.ran-ended.new.source);
     }) (g.K.Sink.faults c.args.sink.now, g.K.Sink.faults c.write_output-status.new.sink) (g.K.Sink.held c.args.sink.now) (g.K.Sink.held c.write_output-status.new.sink) (λ f. record {
       faults = (g.D.VkDevice.faults c.args.device, g.D.VkDevice.faults c.ran-ended.result.device);
-      rest = g.D.VkDevice.rest_of c.args.device;
+      rest = (g.D.VkDevice.rest_of c.args.device, g.D.VkDevice.rest_of c.ran-ended.result.device);
       choices = c.ran-ended.result.log.choices.items;
       taken = ks;
       history = c.report_of.result.history.items;
       fences = f;
       device = g.D.VkDevice.state c.ran-ended.result.device;
       offered = g.D.VkDevice.offered c.ran-ended.result.device;
+      plan = g.D.VkDevice.plan_of c.ran-ended.result.device;
     }) c.report_of.result.status) (sym c.report_of.ensures.taken)
     (subst (λ h. IsReport (record {
       words = map string_bytes c.args.words.now;
@@ -57,13 +60,14 @@ returns-clause-report g c =
       source = (g.S.Source.faults c.args.source.now, g.S.Source.faults c.ran-ended.new.source);
     }) (g.K.Sink.faults c.args.sink.now, g.K.Sink.faults c.write_output-status.new.sink) (g.K.Sink.held c.args.sink.now) (g.K.Sink.held c.write_output-status.new.sink) (λ f. record {
       faults = (g.D.VkDevice.faults c.args.device, g.D.VkDevice.faults c.ran-ended.result.device);
-      rest = g.D.VkDevice.rest_of c.args.device;
+      rest = (g.D.VkDevice.rest_of c.args.device, g.D.VkDevice.rest_of c.ran-ended.result.device);
       choices = c.ran-ended.result.log.choices.items;
       taken = c.ran-ended.result.log.taken.items;
       history = h;
       fences = f;
       device = g.D.VkDevice.state c.ran-ended.result.device;
       offered = g.D.VkDevice.offered c.ran-ended.result.device;
+      plan = g.D.VkDevice.plan_of c.ran-ended.result.device;
     }) c.report_of.result.status) (sym c.report_of.ensures.history)
     (subst (λ s. IsReport (record {
       words = map string_bytes c.args.words.now;
@@ -71,20 +75,21 @@ returns-clause-report g c =
       source = (g.S.Source.faults c.args.source.now, g.S.Source.faults c.ran-ended.new.source);
     }) (g.K.Sink.faults c.args.sink.now, g.K.Sink.faults c.write_output-status.new.sink) (g.K.Sink.held c.args.sink.now) (g.K.Sink.held c.write_output-status.new.sink) (λ f. record {
       faults = (g.D.VkDevice.faults c.args.device, g.D.VkDevice.faults c.ran-ended.result.device);
-      rest = g.D.VkDevice.rest_of c.args.device;
+      rest = (g.D.VkDevice.rest_of c.args.device, g.D.VkDevice.rest_of c.ran-ended.result.device);
       choices = c.ran-ended.result.log.choices.items;
       taken = c.ran-ended.result.log.taken.items;
       history = c.ran-ended.result.outcome.history;
       fences = f;
       device = g.D.VkDevice.state c.ran-ended.result.device;
       offered = g.D.VkDevice.offered c.ran-ended.result.device;
+      plan = g.D.VkDevice.plan_of c.ran-ended.result.device;
     }) s) (sym c.report_of.ensures.status)
     (reported (record {
       words = map string_bytes c.args.words.now;
       told = g.S.Source.left c.args.source.now;
       source = (g.S.Source.faults c.args.source.now, g.S.Source.faults c.ran-ended.new.source);
     }) (g.K.Sink.faults c.args.sink.now, g.K.Sink.faults c.write_output-status.new.sink) (g.K.Sink.held c.args.sink.now) (g.K.Sink.held c.write_output-status.new.sink) (option_map seen c.ran-ended.result.trace)
-    (left_by c.ran-ended.result.log (g.D.VkDevice.faults c.args.device, g.D.VkDevice.faults c.ran-ended.result.device) (g.D.VkDevice.rest_of c.args.device, g.D.VkDevice.offered c.ran-ended.result.device) (g.D.VkDevice.state c.ran-ended.result.device) c.ran-ended.result.outcome) c.ran-ended.result.outcome c.write_output-status.result
+    (left_by c.ran-ended.result.log (g.D.VkDevice.faults c.args.device, g.D.VkDevice.faults c.ran-ended.result.device) (g.D.VkDevice.rest_of c.args.device, g.D.VkDevice.rest_of c.ran-ended.result.device) (g.D.VkDevice.offered c.ran-ended.result.device) (g.D.VkDevice.plan_of c.ran-ended.result.device) (g.D.VkDevice.state c.ran-ended.result.device) c.ran-ended.result.outcome) c.ran-ended.result.outcome c.write_output-status.result
     c.ran-ended.ensures.says refl refl c.ran-ended.ensures.shown c.ran-ended.ensures.refused
     (subst (λ t. IsWritten (g.K.Sink.faults c.args.sink.now, g.K.Sink.faults c.write_output-status.new.sink) (g.K.Sink.held c.args.sink.now) (g.K.Sink.held c.write_output-status.new.sink) (option_map seen t) c.ran-ended.result.outcome c.write_output-status.result) c.as_ref.ensures.value c.write_output-status.ensures))))))
 
@@ -94,3 +99,18 @@ returns-clause-refused g c = refused_of (record {
   told = g.S.Source.left c.args.source.now;
   source = (g.S.Source.faults c.args.source.now, g.S.Source.faults c.ran-ended.new.source);
 }) (g.K.Sink.faults c.args.sink.now, g.K.Sink.faults c.write_output-status.new.sink) (g.K.Sink.held c.args.sink.now) (g.K.Sink.held c.write_output-status.new.sink) _ c.report_of.result.status (returns-clause-report g c)
+
+pub returns-clause-unrun : goal.returns-clause-unrun
+returns-clause-unrun g c = λ unrun.
+    c.report_of.ensures.device ∙ c.ran-ended.ensures.unrun
+    (unrun_meant (g.K.Sink.faults c.args.sink.now, g.K.Sink.faults c.write_output-status.new.sink) (g.K.Sink.held c.args.sink.now) (g.K.Sink.held c.write_output-status.new.sink) _
+    c.ran-ended.result.outcome c.write_output-status.result c.write_output-status.ensures (subst IsUnrun c.report_of.ensures.status unrun))
+
+pub returns-clause-complete : goal.returns-clause-complete
+returns-clause-complete g c = λ given some none.
+    complete_of (record {
+      words = map string_bytes c.args.words.now;
+      told = g.S.Source.left c.args.source.now;
+      source = (g.S.Source.faults c.args.source.now, g.S.Source.faults c.ran-ended.new.source);
+    }) (g.K.Sink.faults c.args.sink.now, g.K.Sink.faults c.write_output-status.new.sink) (g.K.Sink.held c.args.sink.now) (g.K.Sink.held c.write_output-status.new.sink) _ c.report_of.result.status
+    (returns-clause-report g c) given some none

@@ -1,5 +1,5 @@
 -- The step is the one that the choice names.
-use Rattle.std.proofs.Common.{◌≡◌, ◌%◌, ◌∙◌, ap, subst, refl, ◌∷◌, ◌++◌, [], Some}
+use Rattle.std.proofs.Common.{◌≡◌, ◌%◌, ◌∙◌, ap, subst, ◌∷◌, ◌++◌, [], Some}
 use Rattle.std.specs.List.{slice_get}
 use Rattle.sys_core.specs.Steps.{enabled_of}
 use Rattle.sys_core.proofs.NthStep.{any_step}
@@ -13,8 +13,6 @@ take_step-requires g c =
 pub returns-clause-took : goal.returns-clause-took
 returns-clause-took g c = record {
   choice = c.in_ok-choice.choice;
-  step = c.kth-step.result;
-  world = c.in_ok-take_step.ensures.taken.world;
   chooses = record {
     running = c.requires.running;
     free = g.D.VkDevice.offered c.args.sys.now.device;
@@ -26,9 +24,7 @@ returns-clause-took g c = record {
         (c.in_ok-choice.choice % n) ≡ Some c.kth-step.result) c.enabled.ensures.count c.kth-step.ensures;
     goes = c.in_ok-take_step.ensures.taken.goes;
   };
-  named = refl;
+  taken = c.in_ok-take_step.ensures.taken;
   choices = c.push_reserved.ensures ∙ ap (λ xs. xs ++ c.in_ok-choice.choice ∷ []) c.in_ok-reserve.ensures.same_choices;
-  taken = c.push_reserved-2.ensures ∙ ap (λ xs. xs ++ c.kth-step.result ∷ []) c.in_ok-reserve.ensures.same_taken;
-  rest = c.in_ok-take_step.ensures.taken.rest;
-  falls = c.in_ok-take_step.ensures.taken.falls;
+  steps = c.push_reserved-2.ensures ∙ ap (λ xs. xs ++ c.kth-step.result ∷ []) c.in_ok-reserve.ensures.same_taken;
 }

@@ -8,12 +8,10 @@ loop-sys-preserved g c =
     let kept = c.loop-sys.invariant in
     let took = c.in_ok-choose_step-in-Running.ensures.took in
     record {
-      went = λ rest few went.
-          going.went_on g.D.VkDevice.state g.D.VkDevice.rest_of c.loop-sys.sys c.choose_step.new.sys c.loop-sys.log c.choose_step.new.log rest (omega (arith, few, kept.rest))
-          (kept.went rest few went) kept.equal took;
-      rest = omega (arith, kept.rest, took.rest);
+      went = λ rest went.
+          going.went_on g.D.VkDevice.state g.D.VkDevice.rest_of c.loop-sys.sys c.choose_step.new.sys c.loop-sys.log c.choose_step.new.log rest (kept.went rest went) kept.equal took;
       equal = going.still_equal g.D.VkDevice.state g.D.VkDevice.rest_of c.loop-sys.sys c.choose_step.new.sys c.loop-sys.log c.choose_step.new.log kept.equal took;
-      world = took.world ∙ kept.world;
+      world = took.taken.world ∙ kept.world;
       system = c.choose_step.ensures.system;
       whole = c.choose_step.ensures.whole;
       given = c.choose_step.ensures.given kept.given;
@@ -23,7 +21,7 @@ loop-sys-preserved g c =
 
 pub returns-in_err-choose_step-in-Running-clause-went : goal.returns-in_err-choose_step-in-Running-clause-went
 returns-in_err-choose_step-in-Running-clause-went g c =
-    λ rest few went.
+    λ rest went.
     let kept = c.loop-sys.invariant in
-    going.went_still g.D.VkDevice.state g.D.VkDevice.rest_of c.loop-sys.sys c.choose_step.new.sys c.loop-sys.log c.choose_step.new.log rest (omega (arith, few, kept.rest))
-    (kept.went rest few went) kept.equal c.in_err-choose_step-in-Running.ensures.none
+    going.went_still g.D.VkDevice.state g.D.VkDevice.rest_of c.loop-sys.sys c.choose_step.new.sys c.loop-sys.log c.choose_step.new.log rest (kept.went rest went) kept.equal
+    c.in_err-choose_step-in-Running.ensures.none

@@ -8,10 +8,9 @@ use Rattle.trace_runner.proofs.steps.take_steps.Given as goal
 
 abbrev pub invariant-loop-sys : goal.invariant-loop-sys
 invariant-loop-sys g l = record {
-  went : (rest : ℕ) → g.D.VkDevice.rest_of l.initial.sys.device ≤ rest →
-      Went l.initial.sys.world rest l.initial.log.choices.items l.initial.log.taken.items l.initial.sys.history (g.D.VkDevice.state l.initial.sys.device) →
-      Went l.sys.world rest l.log.choices.items l.log.taken.items l.sys.history (g.D.VkDevice.state l.sys.device);
-  rest : g.D.VkDevice.rest_of l.sys.device ≤ g.D.VkDevice.rest_of l.initial.sys.device;
+  went : (rest : ℕ) →
+      Went l.initial.sys.world rest (g.D.VkDevice.rest_of l.initial.sys.device) l.initial.log.choices.items l.initial.log.taken.items l.initial.sys.history (g.D.VkDevice.state l.initial.sys.device) →
+      Went l.sys.world rest (g.D.VkDevice.rest_of l.sys.device) l.log.choices.items l.log.taken.items l.sys.history (g.D.VkDevice.state l.sys.device);
   equal : length l.log.choices.items ≡ length l.log.taken.items;
   world : l.sys.world ≡ l.initial.sys.world;
   system : IsSystem l.sys.world l.sys.history (g.D.VkDevice.state l.sys.device);

@@ -1,4 +1,4 @@
-use Rattle.trace_text.proofs.Written.{parts_are_written}
+use Rattle.trace_text.proofs.Grammar.{parts_are_written}
 use Rattle.trace_text.proofs.read.read_trace.Goals as goal
 
 pub invariant_of-result : goal.invariant_of-result

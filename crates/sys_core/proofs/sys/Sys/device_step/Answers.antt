@@ -8,23 +8,23 @@ use Rattle.sys_core.proofs.sys.Sys.device_step.Goals as goal
 pub returns-clause-whole : goal.returns-clause-whole
 returns-clause-whole g c =
     stepping.whole_of g.D.VkDevice.state g.D.VkDevice.plan_of c.self.inside.world c.self.inside.history.items c.self.inside.parts c.self.inside.device c.self.invariant.keeps
-    c.device_step.new.history.items (g.D.VkDevice.state c.device_step.new.device) c.device_step.result c.self.invariant.whole
+    c.device_step-taken.new.history.items (g.D.VkDevice.state c.device_step-taken.new.device) c.device_step-taken.result c.self.invariant.whole
     (stepping.whole_goes g.D.VkDevice.state g.D.VkDevice.plan_of c.self.inside.world c.self.inside.history.items c.self.inside.parts c.self.inside.device c.self.invariant.keeps
-    c.device_step.new.history.items (g.D.VkDevice.state c.device_step.new.device) (g.D.VkDevice.rest_of c.self.inside.device) (g.D.VkDevice.rest_of c.device_step.new.device) c.device_step.result
+    c.device_step-taken.new.history.items (g.D.VkDevice.state c.device_step-taken.new.device) (g.D.VkDevice.rest_of c.self.inside.device) (g.D.VkDevice.rest_of c.device_step-taken.new.device) c.device_step-taken.result
     (stepping.device_goes g.D.VkDevice.state g.D.VkDevice.plan_of c.self.inside.world c.self.inside.history.items c.self.inside.parts c.self.inside.device c.self.invariant.keeps
-    c.args.k c.device_step.new.history.items (g.D.VkDevice.state c.device_step.new.device) c.device_step.result c.device_step.ensures.step c.device_step.ensures.keeps.consistent.run
-    (g.D.VkDevice.rest_of c.self.inside.device) (g.D.VkDevice.rest_of c.device_step.new.device) c.device_step.ensures.rest_falls c.device_step.ensures.rest))
-    c.device_step.ensures.same c.device_step.ensures.same_state
+    c.args.k c.device_step-taken.new.history.items (g.D.VkDevice.state c.device_step-taken.new.device) c.device_step-taken.result c.device_step-taken.ensures.step c.device_step-taken.ensures.keeps.consistent.run
+    (g.D.VkDevice.rest_of c.self.inside.device) (g.D.VkDevice.rest_of c.device_step-taken.new.device) c.device_step-taken.ensures.rest))
+    c.device_step-taken.ensures.same c.device_step-taken.ensures.same_state
 
 pub invariant_of-self : goal.invariant_of-self
-invariant_of-self g c = record { keeps = c.device_step.ensures.keeps; whole = returns-clause-whole g c }
+invariant_of-self g c = record { keeps = c.device_step-taken.ensures.keeps; queues = c.self.invariant.queues; whole = returns-clause-whole g c; counted = c.count_steps-self-inside.ensures.count; none_at_rest = c.count_steps-self-inside.ensures.none_at_rest }
 
 pub returns-clause-taken : goal.returns-clause-taken
 returns-clause-taken g c =
-    subst (λ v. OnOk c.device_step.result (WasTaken g.D.VkDevice.state g.D.VkDevice.rest_of (step.Device c.args.k) v (record { world = c.self.inside.world; history = c.device_step.new.history.items; device = c.device_step.new.device }))) c.self.view_is
+    subst (λ v. OnOk c.device_step-taken.result (WasTaken g.D.VkDevice.state g.D.VkDevice.rest_of (step.Device c.args.k) v (record { world = c.self.inside.world; history = c.device_step-taken.new.history.items; device = c.device_step-taken.new.device }))) c.self.view_is
     (stepping.taken g.D.VkDevice.state g.D.VkDevice.plan_of c.self.inside.world c.self.inside.history.items c.self.inside.parts c.self.inside.device c.self.invariant.keeps
-    g.D.VkDevice.rest_of (step.Device c.args.k) c.device_step.new.history.items c.device_step.new.device c.device_step.result
-    (c.device_step.ensures.step)
+    g.D.VkDevice.rest_of (step.Device c.args.k) c.device_step-taken.new.history.items c.device_step-taken.new.device c.device_step-taken.result
+    (c.device_step-taken.ensures.step) (c.device_step-taken.ensures.rest)
     (stepping.device_goes g.D.VkDevice.state g.D.VkDevice.plan_of c.self.inside.world c.self.inside.history.items c.self.inside.parts c.self.inside.device c.self.invariant.keeps
-    c.args.k c.device_step.new.history.items (g.D.VkDevice.state c.device_step.new.device) c.device_step.result c.device_step.ensures.step c.device_step.ensures.keeps.consistent.run
-    (g.D.VkDevice.rest_of c.self.inside.device) (g.D.VkDevice.rest_of c.device_step.new.device) c.device_step.ensures.rest_falls c.device_step.ensures.rest))
+    c.args.k c.device_step-taken.new.history.items (g.D.VkDevice.state c.device_step-taken.new.device) c.device_step-taken.result c.device_step-taken.ensures.step c.device_step-taken.ensures.keeps.consistent.run
+    (g.D.VkDevice.rest_of c.self.inside.device) (g.D.VkDevice.rest_of c.device_step-taken.new.device) c.device_step-taken.ensures.rest))

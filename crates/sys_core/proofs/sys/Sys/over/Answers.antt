@@ -3,11 +3,12 @@ use Rattle.std.proofs.Common.{subst}
 use Rattle.sys_core.specs.Keeps.{IsSystem}
 use Rattle.sys_core.proofs.sys.Sys.over.Goals as goal
 
-pub returns-else-count_steps-eq0-clause-system : goal.returns-else-count_steps-eq0-clause-system
-returns-else-count_steps-eq0-clause-system g c =
+pub returns-else-self-eq0-clause-system : goal.returns-else-self-eq0-clause-system
+returns-else-self-eq0-clause-system g c =
     subst (λ v. IsSystem v.world v.history (g.D.VkDevice.state v.device)) c.self.view_is
     (record {
       world = c.self.invariant.keeps.consistent.world;
+      queues = c.self.invariant.queues;
       run = c.self.invariant.keeps.consistent.run;
       device = c.self.invariant.keeps.consistent.device;
     })

@@ -1,5 +1,5 @@
 -- What the step leaves.
-use Rattle.std.proofs.Common.{◌≡◌, sym, subst, true, OnOk}
+use Rattle.std.proofs.Common.{◌≡◌, sym, subst, refl, true, OnOk}
 use Rattle.sys_core.specs.Goes.{WasTaken}
 use Rattle.sys_core.specs.Steps.{is_ready_thread}
 use Rattle.dx_base.specs.declared.steps.Step.TheVariants as step
@@ -11,33 +11,35 @@ use Rattle.sys_core.proofs.sys.Sys.thread_step.Goals as goal
 pub returns-clause-whole : goal.returns-clause-whole
 returns-clause-whole g c =
     stepping.whole_of g.D.VkDevice.state g.D.VkDevice.plan_of c.self.inside.world c.self.inside.history.items c.self.inside.parts c.self.inside.device c.self.invariant.keeps
-    c.thread_step.new.history.items (g.D.VkDevice.state c.thread_step.new.device) c.thread_step.result c.self.invariant.whole
+    c.thread_step-taken.new.history.items (g.D.VkDevice.state c.thread_step-taken.new.device) c.thread_step-taken.result c.self.invariant.whole
     (stepping.whole_goes g.D.VkDevice.state g.D.VkDevice.plan_of c.self.inside.world c.self.inside.history.items c.self.inside.parts c.self.inside.device c.self.invariant.keeps
-    c.thread_step.new.history.items (g.D.VkDevice.state c.thread_step.new.device) (g.D.VkDevice.rest_of c.self.inside.device) (g.D.VkDevice.rest_of c.thread_step.new.device) c.thread_step.result
+    c.thread_step-taken.new.history.items (g.D.VkDevice.state c.thread_step-taken.new.device) (g.D.VkDevice.rest_of c.self.inside.device) (g.D.VkDevice.rest_of c.thread_step-taken.new.device) c.thread_step-taken.result
     (stepping.thread_goes g.D.VkDevice.state g.D.VkDevice.plan_of c.self.inside.world c.self.inside.history.items c.self.inside.parts c.self.inside.device c.self.invariant.keeps
-    c.args.thread (subst (λ v. is_ready_thread v.world v.history c.args.thread.0 ≡ true) (sym c.self.view_is) c.requires) c.thread_step.new.history.items (g.D.VkDevice.state c.thread_step.new.device) c.thread_step.result
-    c.thread_step.ensures.event c.thread_step.ensures.state (g.D.VkDevice.rest_of c.self.inside.device) (g.D.VkDevice.rest_of c.thread_step.new.device) c.thread_step.ensures.rest))
-    c.thread_step.ensures.same c.thread_step.ensures.same_state
+    c.args.thread (subst (λ v. is_ready_thread v.world v.history c.args.thread.0 ≡ true) (sym c.self.view_is) c.requires) c.thread_step-taken.new.history.items (g.D.VkDevice.state c.thread_step-taken.new.device) c.thread_step-taken.result
+    c.thread_step-taken.ensures.event c.thread_step-taken.ensures.state (g.D.VkDevice.rest_of c.self.inside.device) (g.D.VkDevice.rest_of c.thread_step-taken.new.device) c.thread_step-taken.ensures.rest))
+    c.thread_step-taken.ensures.same c.thread_step-taken.ensures.same_state
 
 pub invariant_of-self : goal.invariant_of-self
-invariant_of-self g c = record { keeps = c.thread_step.ensures.keeps; whole = returns-clause-whole g c }
+invariant_of-self g c = record { keeps = c.thread_step-taken.ensures.keeps; queues = c.self.invariant.queues; whole = returns-clause-whole g c; counted = c.count_steps-self-inside.ensures.count; none_at_rest = c.count_steps-self-inside.ensures.none_at_rest }
 
 pub returns-clause-taken : goal.returns-clause-taken
 returns-clause-taken g c =
-    subst (λ v. OnOk c.thread_step.result (WasTaken g.D.VkDevice.state g.D.VkDevice.rest_of (step.Thread c.args.thread.0) v (record { world = c.self.inside.world; history = c.thread_step.new.history.items; device = c.thread_step.new.device }))) c.self.view_is
+    subst (λ v. OnOk c.thread_step-taken.result (WasTaken g.D.VkDevice.state g.D.VkDevice.rest_of (step.Thread c.args.thread.0) v (record { world = c.self.inside.world; history = c.thread_step-taken.new.history.items; device = c.thread_step-taken.new.device }))) c.self.view_is
     (stepping.taken g.D.VkDevice.state g.D.VkDevice.plan_of c.self.inside.world c.self.inside.history.items c.self.inside.parts c.self.inside.device c.self.invariant.keeps
-    g.D.VkDevice.rest_of (step.Thread c.args.thread.0) c.thread_step.new.history.items c.thread_step.new.device c.thread_step.result
+    g.D.VkDevice.rest_of (step.Thread c.args.thread.0) c.thread_step-taken.new.history.items c.thread_step-taken.new.device c.thread_step-taken.result
     (stepping.is_thread_step g.D.VkDevice.state g.D.VkDevice.plan_of c.self.inside.world c.self.inside.history.items c.self.inside.parts c.self.inside.device c.self.invariant.keeps
-    c.args.thread.0 c.thread_step.new.history.items c.thread_step.new.device c.thread_step.result c.thread_step.ensures.event c.thread_step.ensures.state)
+    c.args.thread.0 c.thread_step-taken.new.history.items c.thread_step-taken.new.device c.thread_step-taken.result c.thread_step-taken.ensures.event c.thread_step-taken.ensures.state)
+    (stepping.none_used g.D.VkDevice.state g.D.VkDevice.plan_of c.self.inside.world c.self.inside.history.items c.self.inside.parts c.self.inside.device c.self.invariant.keeps
+    (step.Thread c.args.thread.0) c.thread_step-taken.result (g.D.VkDevice.rest_of c.self.inside.device) (g.D.VkDevice.rest_of c.thread_step-taken.new.device) c.thread_step-taken.ensures.rest refl)
     (stepping.thread_goes g.D.VkDevice.state g.D.VkDevice.plan_of c.self.inside.world c.self.inside.history.items c.self.inside.parts c.self.inside.device c.self.invariant.keeps
-    c.args.thread (subst (λ v. is_ready_thread v.world v.history c.args.thread.0 ≡ true) (sym c.self.view_is) c.requires) c.thread_step.new.history.items (g.D.VkDevice.state c.thread_step.new.device) c.thread_step.result
-    c.thread_step.ensures.event c.thread_step.ensures.state (g.D.VkDevice.rest_of c.self.inside.device) (g.D.VkDevice.rest_of c.thread_step.new.device) c.thread_step.ensures.rest))
+    c.args.thread (subst (λ v. is_ready_thread v.world v.history c.args.thread.0 ≡ true) (sym c.self.view_is) c.requires) c.thread_step-taken.new.history.items (g.D.VkDevice.state c.thread_step-taken.new.device) c.thread_step-taken.result
+    c.thread_step-taken.ensures.event c.thread_step-taken.ensures.state (g.D.VkDevice.rest_of c.self.inside.device) (g.D.VkDevice.rest_of c.thread_step-taken.new.device) c.thread_step-taken.ensures.rest))
 
 pub returns-clause-refusals : goal.returns-clause-refusals
 returns-clause-refusals g c =
     refusing.refusals g.D.VkDevice.state g.D.VkDevice.rest_of c.args.thread.0 c.args.self.now
-    (record { world = c.self.inside.world; history = c.thread_step.new.history.items; device = c.thread_step.new.device }) c.thread_step.result
+    (record { world = c.self.inside.world; history = c.thread_step-taken.new.history.items; device = c.thread_step-taken.new.device }) c.thread_step-taken.result
     (subst (λ v. IsSystem v.world v.history (g.D.VkDevice.state v.device)) c.self.view_is
-    (record { world = c.self.invariant.keeps.consistent.world; run = c.self.invariant.keeps.consistent.run; device = c.self.invariant.keeps.consistent.device }))
-    (record { world = c.thread_step.ensures.keeps.consistent.world; run = c.thread_step.ensures.keeps.consistent.run; device = c.thread_step.ensures.keeps.consistent.device })
+    (record { world = c.self.invariant.keeps.consistent.world; queues = c.self.invariant.queues; run = c.self.invariant.keeps.consistent.run; device = c.self.invariant.keeps.consistent.device }))
+    (record { world = c.thread_step-taken.ensures.keeps.consistent.world; queues = c.self.invariant.queues; run = c.thread_step-taken.ensures.keeps.consistent.run; device = c.thread_step-taken.ensures.keeps.consistent.device })
     (returns-clause-taken g c)

@@ -1,5 +1,5 @@
 -- What the step leaves.
-use Rattle.std.proofs.Common.{◌≡◌, sym, subst, true, OnOk, ◌<◌, length}
+use Rattle.std.proofs.Common.{◌≡◌, sym, subst, refl, true, OnOk, ◌<◌, length}
 use Rattle.sys_core.specs.Goes.{WasTaken}
 use Rattle.sys_core.specs.Steps.{is_ready_worker}
 use Rattle.dx_base.specs.declared.steps.Step.TheVariants as step
@@ -9,28 +9,30 @@ use Rattle.sys_core.proofs.sys.Sys.worker_step.Goals as goal
 pub returns-clause-whole : goal.returns-clause-whole
 returns-clause-whole g c =
     stepping.whole_of g.D.VkDevice.state g.D.VkDevice.plan_of c.self.inside.world c.self.inside.history.items c.self.inside.parts c.self.inside.device c.self.invariant.keeps
-    c.self.inside.history.items (g.D.VkDevice.state c.worker_step.new.device) c.worker_step.result c.self.invariant.whole
+    c.self.inside.history.items (g.D.VkDevice.state c.worker_step-taken.new.device) c.worker_step-taken.result c.self.invariant.whole
     (stepping.whole_goes g.D.VkDevice.state g.D.VkDevice.plan_of c.self.inside.world c.self.inside.history.items c.self.inside.parts c.self.inside.device c.self.invariant.keeps
-    c.self.inside.history.items (g.D.VkDevice.state c.worker_step.new.device) (g.D.VkDevice.rest_of c.self.inside.device) (g.D.VkDevice.rest_of c.worker_step.new.device) c.worker_step.result
+    c.self.inside.history.items (g.D.VkDevice.state c.worker_step-taken.new.device) (g.D.VkDevice.rest_of c.self.inside.device) (g.D.VkDevice.rest_of c.worker_step-taken.new.device) c.worker_step-taken.result
     (stepping.worker_goes g.D.VkDevice.state g.D.VkDevice.plan_of c.self.inside.world c.self.inside.history.items c.self.inside.parts c.self.inside.device c.self.invariant.keeps
     c.args.queue.0 (subst (λ v. c.args.queue.0 < length v.world.queues) (sym c.self.view_is) c.requires.queue)
     (subst (λ v. is_ready_worker v.world v.history (g.D.VkDevice.state v.device) c.args.queue.0 ≡ true) (sym c.self.view_is) c.requires.ready)
-    (g.D.VkDevice.state c.worker_step.new.device) c.worker_step.result
-    c.worker_step.ensures.state (g.D.VkDevice.rest_of c.self.inside.device) (g.D.VkDevice.rest_of c.worker_step.new.device) c.worker_step.ensures.rest))
-    (stepping.stays_same c.worker_step.result c.self.inside.history.items) c.worker_step.ensures.same_state
+    (g.D.VkDevice.state c.worker_step-taken.new.device) c.worker_step-taken.result
+    c.worker_step-taken.ensures.state (g.D.VkDevice.rest_of c.self.inside.device) (g.D.VkDevice.rest_of c.worker_step-taken.new.device) c.worker_step-taken.ensures.rest))
+    (stepping.stays_same c.worker_step-taken.result c.self.inside.history.items) c.worker_step-taken.ensures.same_state
 
 pub invariant_of-self : goal.invariant_of-self
-invariant_of-self g c = record { keeps = c.worker_step.ensures.keeps; whole = returns-clause-whole g c }
+invariant_of-self g c = record { keeps = c.worker_step-taken.ensures.keeps; queues = c.self.invariant.queues; whole = returns-clause-whole g c; counted = c.count_steps-self-inside.ensures.count; none_at_rest = c.count_steps-self-inside.ensures.none_at_rest }
 
 pub returns-clause-taken : goal.returns-clause-taken
 returns-clause-taken g c =
-    subst (λ v. OnOk c.worker_step.result (WasTaken g.D.VkDevice.state g.D.VkDevice.rest_of (step.Worker c.args.queue.0) v (record { world = c.self.inside.world; history = c.self.inside.history.items; device = c.worker_step.new.device }))) c.self.view_is
+    subst (λ v. OnOk c.worker_step-taken.result (WasTaken g.D.VkDevice.state g.D.VkDevice.rest_of (step.Worker c.args.queue.0) v (record { world = c.self.inside.world; history = c.self.inside.history.items; device = c.worker_step-taken.new.device }))) c.self.view_is
     (stepping.taken g.D.VkDevice.state g.D.VkDevice.plan_of c.self.inside.world c.self.inside.history.items c.self.inside.parts c.self.inside.device c.self.invariant.keeps
-    g.D.VkDevice.rest_of (step.Worker c.args.queue.0) c.self.inside.history.items c.worker_step.new.device c.worker_step.result
+    g.D.VkDevice.rest_of (step.Worker c.args.queue.0) c.self.inside.history.items c.worker_step-taken.new.device c.worker_step-taken.result
     (stepping.is_worker_step g.D.VkDevice.state g.D.VkDevice.plan_of c.self.inside.world c.self.inside.history.items c.self.inside.parts c.self.inside.device c.self.invariant.keeps
-    c.args.queue.0 c.worker_step.new.device c.worker_step.result c.worker_step.ensures.state)
+    c.args.queue.0 c.worker_step-taken.new.device c.worker_step-taken.result c.worker_step-taken.ensures.state)
+    (stepping.none_used g.D.VkDevice.state g.D.VkDevice.plan_of c.self.inside.world c.self.inside.history.items c.self.inside.parts c.self.inside.device c.self.invariant.keeps
+    (step.Worker c.args.queue.0) c.worker_step-taken.result (g.D.VkDevice.rest_of c.self.inside.device) (g.D.VkDevice.rest_of c.worker_step-taken.new.device) c.worker_step-taken.ensures.rest refl)
     (stepping.worker_goes g.D.VkDevice.state g.D.VkDevice.plan_of c.self.inside.world c.self.inside.history.items c.self.inside.parts c.self.inside.device c.self.invariant.keeps
     c.args.queue.0 (subst (λ v. c.args.queue.0 < length v.world.queues) (sym c.self.view_is) c.requires.queue)
     (subst (λ v. is_ready_worker v.world v.history (g.D.VkDevice.state v.device) c.args.queue.0 ≡ true) (sym c.self.view_is) c.requires.ready)
-    (g.D.VkDevice.state c.worker_step.new.device) c.worker_step.result
-    c.worker_step.ensures.state (g.D.VkDevice.rest_of c.self.inside.device) (g.D.VkDevice.rest_of c.worker_step.new.device) c.worker_step.ensures.rest))
+    (g.D.VkDevice.state c.worker_step-taken.new.device) c.worker_step-taken.result
+    c.worker_step-taken.ensures.state (g.D.VkDevice.rest_of c.self.inside.device) (g.D.VkDevice.rest_of c.worker_step-taken.new.device) c.worker_step-taken.ensures.rest))

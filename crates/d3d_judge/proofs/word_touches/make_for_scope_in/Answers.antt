@@ -1,0 +1,18 @@
+use Rattle.std.proofs.Common.{refl}
+use Rattle.dx_base.proofs.Lists.{write_is_changed}
+use Rattle.d3d_judge.proofs.CarriedClocks.{got}
+use Rattle.d3d_judge.proofs.WordTouches.{queues_made}
+use Rattle.d3d_judge.proofs.word_touches.make_for_scope_in.Goals as goal
+
+pub returns-clause-kept : goal.returns-clause-kept
+returns-clause-kept c = record {
+  before = c.at_mut.result.now;
+  after = c.make_for_scope.new.self;
+  found = got c.args.subs.now c.args.access.sub c.at_mut.result.now c.requires.sub c.at_mut.ensures.value;
+  set = write_is_changed (λ _. c.make_for_scope.new.self) c.args.subs.now c.args.access.sub c.at_mut.result.now c.make_for_scope.new.self c.requires.sub c.at_mut.ensures.value refl;
+  ties = c.make_for_scope.ensures.ties;
+  shape = c.make_for_scope.ensures.shape;
+}
+
+pub returns-clause-made : goal.returns-clause-made
+returns-clause-made c = queues_made c.args.words c.args.queue c.args.access.sub c.args.subs.now c.at_mut.result.now c.make_for_scope.new.self c.make_for_scope.result c.requires.sub c.at_mut.ensures.value c.make_for_scope.ensures.writes c.make_for_scope.ensures.touches

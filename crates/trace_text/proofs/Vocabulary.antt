@@ -1,0 +1,81 @@
+-- The words of the lemmas, from the definitions and from the standard library.
+pub use Rattle.d3d_machine.specs.Counts.{calls_in_all, lists_in_all, lists_of_call}
+pub use Rattle.d3d_machine.specs.World.{IsWorld, are_named, is_named, is_small_resource}
+pub use Rattle.d3d_machine.specs.declared.calls.Call.{Call}
+pub use Rattle.d3d_machine.specs.declared.events.Event.{Event}
+pub use Rattle.d3d_machine.specs.declared.world.World.{World}
+pub use Rattle.indexmap.specs.IndexMap.{insert_entry}
+pub use Rattle.line_forms.proofs.Apart.{found_in, passes}
+pub use Rattle.line_forms.proofs.Good.{is_kept, line_kept, prints_back, reads_again}
+pub use Rattle.line_forms.proofs.PlainWords.{ArePlain, IsPlainWord, apart_from, are_words, line_again, line_is, line_of, plain_line, words_again}
+pub use Rattle.line_forms.proofs.ShortLines.{AreShortNames, bounded_short, is_bounded, is_plain_part, line_plain, line_short}
+pub use Rattle.line_forms.proofs.Tests.{line_from, named_read, new_read, new_tests, pass, pass_one, sound_read}
+unfoldable pub use Rattle.line_forms.specs.Finding.{form_for}
+pub use Rattle.line_forms.specs.Laws.{AllGood, AreNamed as AreCalled, IsGoodLine, shaped_from, shaped_line}
+unfoldable pub use Rattle.line_forms.specs.Laws.{all_apart, apart}
+unfoldable pub use Rattle.line_forms.specs.Lines.{line_text, rest_of_line}
+pub use Rattle.line_forms.specs.Parts.{AllOr, AllOrNumber, Choice, DataWord, FlagWord, Name, NewName, Number, Place, Row, Set, Word}
+pub use Rattle.line_forms.specs.Printing.{Known}
+unfoldable pub use Rattle.line_forms.specs.Printing.{joined, line_words, part_texts, rest_texts, spaced, text_of}
+pub use Rattle.line_forms.specs.Reading.{Naming}
+unfoldable pub use Rattle.line_forms.specs.Reading.{read_row}
+pub use Rattle.line_forms.specs.Sound.{all_tests, is_named_line, is_sound_line}
+pub use Rattle.line_forms.specs.declared.cause.Cause.{Cause}
+pub use Rattle.line_forms.specs.declared.form.Line.{Line}
+pub use Rattle.line_forms.specs.declared.kind.Kind.{Kind}
+pub use Rattle.std.proofs.Common.{Bool, Err, List, None, Ok, Option, Result, Some, [], add-one, add-zero, ap, append-nil, append_assoc, arith, cond, drop, drop-cons, eqb, false, flat_map, get_or, if◌then◌else◌, inl, inr, is_some, length, length-append, length-take-le, lit≤, map, nat_le, nat_lt, not, refl, slice_get, slice_set, subst, suc, sum_by, sym, take, take_all, true, zero, ℕ, ◌&&◌, ◌++◌, ◌+◌, ◌-◌, ◌/◌, ◌<◌, ◌==◌, ◌^◌, ◌||◌, ◌∙◌, ◌∷◌, ◌≡◌, ◌≤◌, ◌⊎◌}
+pub use Rattle.std.proofs.Math.Logic.{∥∥₁_elim}
+pub use Rattle.std.proofs.Props.{props}
+pub use Rattle.std.proofs.lemmas.Bool.{and_from, and_parts, eqb-false, eqb-true, le-leb, le-ltb, leb-false, leb-true, lt-leb, lt-ltb, ltb-false, ltb-true, or_from, or_parts}
+pub use Rattle.std.proofs.lemmas.Bool.Decides.{leb_tells, nat_tests}
+pub use Rattle.std.proofs.lemmas.Grind.{flat_map-append}
+pub use Rattle.std.proofs.lemmas.List.{drop_all, length-drop, length-map, map-id, map_push, nil_from_length, take-append-le}
+pub use Rattle.std.proofs.lemmas.List.Elements.{All-append, All-cons, All-from_recursion, All-head, All-nil, All-tail, All-take}
+pub use Rattle.std.proofs.lemmas.List.Folds.{list_all-append, list_all-map}
+pub use Rattle.std.proofs.lemmas.List.Splits.{join_with_byte-slice_split, slice_split-cons_no, slice_split-cons_yes, slice_split_at, slice_split_none}
+pub use Rattle.std.proofs.lemmas.List.Sums.{sum_by-append, sum_by-cons, sum_by_push}
+pub use Rattle.std.proofs.lemmas.Option.{slice_get-get_or, slice_get_within}
+pub use Rattle.std.specs.Cmp.{IsEquivalence}
+pub use Rattle.std.specs.Cmp.Rules.{comparing}
+pub use Rattle.std.specs.List.{All, AllByRecursion, filter, join_with_byte, list_all, list_any, onto_first, range_with_len, slice_split}
+pub use Rattle.std.specs.Map.{lookup}
+pub use Rattle.std.specs.Str.{bytes_eq}
+pub use Rattle.trace_text.specs.Formed.{Formed, call_formed, formed, item_formed, item_words, list_named, made}
+unfoldable pub use Rattle.trace_text.specs.Formed.{item_text}
+pub use Rattle.trace_text.specs.Forms.{class_of, form_row, forms}
+pub use Rattle.trace_text.specs.Grammar.{IsTextOf, text_of_lines}
+pub use Rattle.trace_text.specs.Items.{items_of}
+unfoldable pub use Rattle.trace_text.specs.Items.{object_items, thread_items, trace_text}
+pub use Rattle.trace_text.specs.Kinds.{count_of, is_refused_size, kind_of, most_of, next_thing, words_of_all, words_of_object}
+unfoldable pub use Rattle.trace_text.specs.Kinds.{is_one_too_many}
+pub use Rattle.trace_text.specs.Known.{KnownNames, known_names, known_of, with_name}
+unfoldable pub use Rattle.trace_text.specs.Known.{names_of_kind}
+unfoldable pub use Rattle.trace_text.specs.Later.{is_later}
+pub use Rattle.trace_text.specs.Names.{name_at}
+pub use Rattle.trace_text.specs.Reading.{and_then, by_form, has_queue, has_thread, is_formless, is_header, is_misplaced, is_second, naming_of, object_named, opening}
+unfoldable pub use Rattle.trace_text.specs.Reading.{fault_of_place, is_over, meant_of, placed_of, read_item, taken_of, with_item, with_words}
+unfoldable pub use Rattle.trace_text.specs.Scripts.{is_call_too_many, with_call}
+pub use Rattle.trace_text.specs.Seen.{seen}
+pub use Rattle.trace_text.specs.Sound.{IsSound, is_fit_name, is_sound_call, is_sound_object}
+pub use Rattle.trace_text.specs.Texts.{at_line, is_skipped}
+unfoldable pub use Rattle.trace_text.specs.Texts.{pieces_from, reading_of, sized, with_last, with_line}
+pub use Rattle.trace_text.specs.Things.{Names, kind_code, numbered, same_kind}
+unfoldable pub use Rattle.trace_text.specs.Things.{new_name, number_named, thing_of}
+pub use Rattle.trace_text.specs.Values.{AreLinesOf, IsWritten, Value, value_in, valued}
+unfoldable pub use Rattle.trace_text.specs.Values.{value_of, with_lines}
+pub use Rattle.trace_text.specs.WorldOf.{allocator_in, fence_in, list_in, no_objects, objects_of, queue_in, resource_in, with_object, world_of_value}
+unfoldable pub use Rattle.trace_text.specs.WorldOf.{objects_from}
+pub use Rattle.trace_text.specs.declared.form.Class.{Class}
+pub use Rattle.trace_text.specs.declared.form.Form.{Form}
+pub use Rattle.trace_text.specs.declared.item.Item.{Item}
+pub use Rattle.trace_text.specs.declared.item.Item.TheVariants.{Calls, Declares, Ends, Header, Starts}
+pub use Rattle.trace_text.specs.declared.object.Declared.{Declared}
+pub use Rattle.trace_text.specs.declared.object.Declared.TheVariants.{Allocator, Buffer, Fence, List as list, Queue}
+pub use Rattle.trace_text.specs.declared.reading.Reading.{Reading}
+pub use Rattle.trace_text.specs.declared.things.Thing.{Thing}
+pub use Rattle.trace_text.specs.declared.trace.Trace.{Trace}
+pub use Rattle.trace_words.specs.Cut.{CutsOff}
+pub use Rattle.trace_words.specs.Lines.{is_plain_byte, pieces_of, words_of}
+unfoldable pub use Rattle.trace_words.specs.Lines.{is_plain}
+pub use Rattle.trace_words.specs.Words.{is_letter, is_name_byte}
+unfoldable pub use Rattle.trace_words.specs.Words.{is_name}
