@@ -112,8 +112,8 @@ module _ (calls : List Call) (n number before : ℕ) (r : Round) (rs : List Roun
   unfolding calls_of
   waits_on d most_done =
       let waiting : Bool → Desk = λ b.
-          desk_with (n + 1) (value_in d before r.value) (in_flight Signals d r.value) (list_in (row Signalled).list number)
-          (Some (record { fence = 0; value = r.value; marked = b })) in
+      desk_with (n + 1) (value_in d before r.value) (in_flight Signals d r.value) (list_in (row Signalled).list number)
+      (Some (record { fence = 0; value = r.value; marked = b })) in
       goes_of calls n _ _ (ap waiting (reached d before r.value rising.0.above)) (λ access. absurd (cc)) (λ q. refl) refl refl
       (stays number d Waits (omega arith) most_done)
 
