@@ -5,5 +5,4 @@ pub mod SyncStages
 pub mod AccessBits
 pub mod ImageLayouts
 pub mod StateSides
-pub mod SupportedSides
 pub mod TextsBothWays

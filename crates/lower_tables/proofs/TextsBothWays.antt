@@ -1,14 +1,12 @@
 -- What goes by a name comes back.
-use Rattle.std.proofs.Common.{◌≡◌, ℕ, Bool, true, List, [], ◌∷◌, Some, ◌==◌, map, refl, sym, ap, ◌∙◌, inl, inr}
+use Rattle.std.proofs.Common.{◌≡◌, ℕ, List, [], ◌∷◌, Option, Some, ◌==◌, map, refl, sym, ap, ◌∙◌, inl, inr}
+use Rattle.std.specs.Prelude.{◌↔◌}
 use Rattle.std.proofs.lemmas.Bool.{eqb-true}
 use Rattle.std.proofs.lemmas.Option.{none-some}
 use Rattle.std.proofs.lemmas.Slice.Eq.{bytes_eq-Decides}
 use Rattle.std.specs.Str.{bytes_eq}
-use Rattle.dx_flags.specs.declared.accesses.Access.{Access}
 use Rattle.dx_flags.specs.declared.layouts.Layout.{Layout}
 use Rattle.dx_flags.specs.declared.layouts.Layout.TheVariants as layout
-use Rattle.dx_flags.specs.declared.states.State.{State}
-use Rattle.dx_flags.specs.declared.syncs.Sync.{Sync}
 use Rattle.dx_flags.specs.AccessNames as access
 use Rattle.dx_flags.specs.AccessNames.{AccessName, access_bit, access_text, access_names}
 use Rattle.dx_flags.specs.Accesses.{one_access}
@@ -21,25 +19,50 @@ use Rattle.dx_flags.specs.Syncs.{one_sync}
 use Rattle.lower_tables.proofs.FirstRows.{here_or_later}
 use Rattle.lower_tables.specs.Laws.{NamesAreOfSingles, NamesGoBothWays}
 use Rattle.lower_tables.specs.Names.{sync_named, sync_name, access_named, access_name, state_named, state_name, layout_named, layout_name, layout_text, all_layouts}
-use Rattle.lower_tables.specs.Rows.{first_where}
+use Rattle.trace_words.specs.Rows.{row_of}
+use Rattle.lower_tables.specs.Rows.{first_value}
 
--- a value that is found is that of some name whose key passes
-found : {N K V : Type 0} (test : K → Bool) (key : N → K) (value : N → V) (names : List N) (v : V) → first_where test (map (λ n. (key n, value n)) names) ≡ Some v →
-    (n : N) × ((test (key n) ≡ true) × (v ≡ value n))
-found test key value [] v h = absurd (none-some v h)
-found test key value (name ∷ names) v h =
-    elim (here_or_later (test (key name)) (value name) (first_where test (map (λ n. (key n, value n)) names)) v h) [
-      | inl here ↦ (name, here)
-      | inr later ↦ found test key value names v later.1
+-- a value that is found by a text is that of some name with the text
+by_text : {N V : Type 0} (text : N → List ℕ) (value : N → V) (names : List N) (word : List ℕ) (v : V) → row_of (map (λ n. (text n, value n)) names) word ≡ Some v →
+    (n : N) × ((word ≡ text n) × (v ≡ value n))
+unfolding row_of
+by_text text value [] word v h = absurd (none-some v h)
+by_text text value (name ∷ names) word v h =
+    elim (here_or_later (bytes_eq word (text name)) (value name) (row_of (map (λ n. (text n, value n)) names) word) v h) [
+      | inl here ↦ (name, ((bytes_eq-Decides word (text name)).0 here.0, here.1))
+      | inr later ↦ by_text text value names word v later.1
     ]
 
--- equal texts
-same_text : (a b : List ℕ) → bytes_eq a b ≡ true → a ≡ b
-same_text a b h = (bytes_eq-Decides a b).0 h
+-- and one that is found by a key that of some name with the key
+by_key : {N V : Type 0} (key : N → ℕ) (value : N → V) (names : List N) (k : ℕ) (v : V) → first_value k (map (λ n. (key n, value n)) names) ≡ Some v →
+    (n : N) × ((key n ≡ k) × (v ≡ value n))
+by_key key value [] k v h = absurd (none-some v h)
+by_key key value (name ∷ names) k v h =
+    elim (here_or_later (key name == k) (value name) (first_value k (map (λ n. (key n, value n)) names)) v h) [
+      | inl here ↦ (name, (eqb-true (key name) k here.0, here.1))
+      | inr later ↦ by_key key value names k v later.1
+    ]
+
+-- names, with the text and the value of each, and the look-ups both ways
+record AreNames {N V : Type 0} (text : N → List ℕ) (one : N → V) (named : List ℕ → Option V) (name : V → Option (List ℕ)) : Type 0 where
+  of_text : (n : N) → named (text n) ≡ Some (one n)
+  text_of : (n : N) → name (one n) ≡ Some (text n)
+  by_name : (w : List ℕ) (v : V) → named w ≡ Some v → (n : N) × ((w ≡ text n) × (v ≡ one n))
+  by_value : (w : List ℕ) (v : V) → name v ≡ Some w → (n : N) × ((v ≡ one n) × (w ≡ text n))
+
+module _ {N V : Type 0} (text : N → List ℕ) (one : N → V) (named : List ℕ → Option V) (name : V → Option (List ℕ)) (are : AreNames text one named name) where
+  singles : (w : List ℕ) (v : V) → (named w ≡ Some v) ↔ ((n : N) × ((w ≡ text n) × (v ≡ one n)))
+  singles w v = (are.by_name w v, λ by. ap named by.1.0 ∙ are.of_text by.0 ∙ ap Some (sym by.1.1))
+
+  ways : (w : List ℕ) (v : V) → (named w ≡ Some v) ↔ (name v ≡ Some w)
+  ways w v = (
+    λ h. let by = are.by_name w v h in ap name by.1.1 ∙ are.text_of by.0 ∙ ap Some (sym by.1.0),
+    λ h. let by = are.by_value w v h in ap named by.1.1 ∙ are.of_text by.0 ∙ ap Some (sym by.1.0),
+  )
 
 -- each sync's text names it
 sync_of_text : (name : SyncName) → sync_named (sync_text name) ≡ Some (one_sync name)
-unfolding sync_named
+unfolding sync_named row_of
 sync_of_text sync.NONE = refl
 sync_of_text sync.ALL = refl
 sync_of_text sync.COMPUTE_SHADING = refl
@@ -59,21 +82,9 @@ text_of_sync sync.NON_PIXEL_SHADING = refl
 text_of_sync sync.COPY = refl
 text_of_sync sync.CLEAR_UNORDERED_ACCESS_VIEW = refl
 
-from_sync_text : (text : List ℕ) (one : Sync) → sync_named text ≡ Some one → sync_name one ≡ Some text
-unfolding sync_named
-from_sync_text text one h =
-    let by = found (λ own. bytes_eq own text) sync_text one_sync sync_names one h in
-    ap sync_name by.1.1 ∙ text_of_sync by.0 ∙ ap (λ t. Some t) (same_text (sync_text by.0) text by.1.0)
-
-to_sync_text : (text : List ℕ) (one : Sync) → sync_name one ≡ Some text → sync_named text ≡ Some one
-unfolding sync_name
-to_sync_text text one h =
-    let by = found (λ own. own == one.0) sync_bit sync_text sync_names text h in
-    ap sync_named by.1.1 ∙ sync_of_text by.0 ∙ ap (λ n. Some (record { 0 = n })) (eqb-true (sync_bit by.0) one.0 by.1.0)
-
 -- each access's text names it
 access_of_text : (name : AccessName) → access_named (access_text name) ≡ Some (one_access name)
-unfolding access_named
+unfolding access_named row_of
 access_of_text access.UNORDERED_ACCESS = refl
 access_of_text access.SHADER_RESOURCE = refl
 access_of_text access.CONSTANT_BUFFER = refl
@@ -93,21 +104,9 @@ text_of_access access.COPY_DEST = refl
 text_of_access access.COMMON = refl
 text_of_access access.NO_ACCESS = refl
 
-from_access_text : (text : List ℕ) (one : Access) → access_named text ≡ Some one → access_name one ≡ Some text
-unfolding access_named
-from_access_text text one h =
-    let by = found (λ own. bytes_eq own text) access_text one_access access_names one h in
-    ap access_name by.1.1 ∙ text_of_access by.0 ∙ ap (λ t. Some t) (same_text (access_text by.0) text by.1.0)
-
-to_access_text : (text : List ℕ) (one : Access) → access_name one ≡ Some text → access_named text ≡ Some one
-unfolding access_name
-to_access_text text one h =
-    let by = found (λ own. own == one.0) access_bit access_text access_names text h in
-    ap access_named by.1.1 ∙ access_of_text by.0 ∙ ap (λ n. Some (record { 0 = n })) (eqb-true (access_bit by.0) one.0 by.1.0)
-
 -- each state's text names it
 state_of_text : (name : StateName) → state_named (state_text name) ≡ Some (one_state name)
-unfolding state_named
+unfolding state_named row_of
 state_of_text state.COMMON = refl
 state_of_text state.VERTEX_AND_CONSTANT_BUFFER = refl
 state_of_text state.NON_PIXEL_SHADER_RESOURCE = refl
@@ -127,21 +126,36 @@ text_of_state state.COPY_SOURCE = refl
 text_of_state state.COPY_DEST = refl
 text_of_state state.UNORDERED_ACCESS = refl
 
-from_state_text : (text : List ℕ) (one : State) → state_named text ≡ Some one → state_name one ≡ Some text
-unfolding state_named
-from_state_text text one h =
-    let by = found (λ own. bytes_eq own text) state_text one_state state_names one h in
-    ap state_name by.1.1 ∙ text_of_state by.0 ∙ ap (λ t. Some t) (same_text (state_text by.0) text by.1.0)
+sync_are : AreNames sync_text one_sync sync_named sync_name
+unfolding sync_named sync_name
+sync_are = record {
+  of_text = sync_of_text;
+  text_of = text_of_sync;
+  by_name = λ w v h. by_text sync_text one_sync sync_names w v h;
+  by_value = λ w v h. let by = by_key sync_bit sync_text sync_names v.0 w h in (by.0, (ap (λ n. record { 0 = n }) (sym by.1.0), by.1.1));
+}
 
-to_state_text : (text : List ℕ) (one : State) → state_name one ≡ Some text → state_named text ≡ Some one
-unfolding state_name
-to_state_text text one h =
-    let by = found (λ own. own == one.0) state_bit state_text state_names text h in
-    ap state_named by.1.1 ∙ state_of_text by.0 ∙ ap (λ n. Some (record { 0 = n })) (eqb-true (state_bit by.0) one.0 by.1.0)
+access_are : AreNames access_text one_access access_named access_name
+unfolding access_named access_name
+access_are = record {
+  of_text = access_of_text;
+  text_of = text_of_access;
+  by_name = λ w v h. by_text access_text one_access access_names w v h;
+  by_value = λ w v h. let by = by_key access_bit access_text access_names v.0 w h in (by.0, (ap (λ n. record { 0 = n }) (sym by.1.0), by.1.1));
+}
+
+state_are : AreNames state_text one_state state_named state_name
+unfolding state_named state_name
+state_are = record {
+  of_text = state_of_text;
+  text_of = text_of_state;
+  by_name = λ w v h. by_text state_text one_state state_names w v h;
+  by_value = λ w v h. let by = by_key state_bit state_text state_names v.0 w h in (by.0, (ap (λ n. record { 0 = n }) (sym by.1.0), by.1.1));
+}
 
 -- each layout's text names it
 layout_of_text : (l : Layout) → layout_named (layout_text l) ≡ Some l
-unfolding layout_named
+unfolding layout_named row_of
 layout_of_text layout.Undefined = refl
 layout_of_text layout.Common = refl
 layout_of_text layout.GenericRead = refl
@@ -150,63 +164,29 @@ layout_of_text layout.ShaderResource = refl
 layout_of_text layout.CopySource = refl
 layout_of_text layout.CopyDest = refl
 
-from_layout_text : (text : List ℕ) (one : Layout) → layout_named text ≡ Some one → layout_name one ≡ Some text
+layout_by_text : (text : List ℕ) (one : Layout) → layout_named text ≡ Some one → text ≡ layout_text one
 unfolding layout_named
-from_layout_text text one h =
-    let by = found (λ own. bytes_eq own text) layout_text (λ l. l) all_layouts one h in
-    ap layout_name by.1.1 ∙ ap (λ t. Some t) (same_text (layout_text by.0) text by.1.0)
+layout_by_text text one h =
+    let by = by_text layout_text (λ l. l) all_layouts text one h in by.1.0 ∙ ap layout_text (sym by.1.1)
+
+from_layout_text : (text : List ℕ) (one : Layout) → layout_named text ≡ Some one → layout_name one ≡ Some text
+from_layout_text text one h = ap Some (sym (layout_by_text text one h))
 
 to_layout_text : (text : List ℕ) (one : Layout) → layout_name one ≡ Some text → layout_named text ≡ Some one
 to_layout_text text one h = let same : text ≡ layout_text one = cc in ap layout_named same ∙ layout_of_text one
 
--- a text names this sync where it is that of a single one
-single_sync : (text : List ℕ) (one : Sync) → (name : SyncName) × ((text ≡ sync_text name) × (one ≡ one_sync name)) → sync_named text ≡ Some one
-single_sync text one by = ap sync_named by.1.0 ∙ sync_of_text by.0 ∙ ap (λ o. Some o) (sym by.1.1)
-
-sync_by_single : (text : List ℕ) (one : Sync) → sync_named text ≡ Some one → (name : SyncName) × ((text ≡ sync_text name) × (one ≡ one_sync name))
-unfolding sync_named
-sync_by_single text one h =
-    let by = found (λ own. bytes_eq own text) sync_text one_sync sync_names one h in
-    (by.0, (sym (same_text (sync_text by.0) text by.1.0), by.1.1))
-
--- a text names this access where it is that of a single one
-single_access : (text : List ℕ) (one : Access) → (name : AccessName) × ((text ≡ access_text name) × (one ≡ one_access name)) → access_named text ≡ Some one
-single_access text one by = ap access_named by.1.0 ∙ access_of_text by.0 ∙ ap (λ o. Some o) (sym by.1.1)
-
-access_by_single : (text : List ℕ) (one : Access) → access_named text ≡ Some one → (name : AccessName) × ((text ≡ access_text name) × (one ≡ one_access name))
-unfolding access_named
-access_by_single text one h =
-    let by = found (λ own. bytes_eq own text) access_text one_access access_names one h in
-    (by.0, (sym (same_text (access_text by.0) text by.1.0), by.1.1))
-
--- a text names this state where it is that of a single one
-single_state : (text : List ℕ) (one : State) → (name : StateName) × ((text ≡ state_text name) × (one ≡ one_state name)) → state_named text ≡ Some one
-single_state text one by = ap state_named by.1.0 ∙ state_of_text by.0 ∙ ap (λ o. Some o) (sym by.1.1)
-
-state_by_single : (text : List ℕ) (one : State) → state_named text ≡ Some one → (name : StateName) × ((text ≡ state_text name) × (one ≡ one_state name))
-unfolding state_named
-state_by_single text one h =
-    let by = found (λ own. bytes_eq own text) state_text one_state state_names one h in
-    (by.0, (sym (same_text (state_text by.0) text by.1.0), by.1.1))
-
-layout_by_text : (text : List ℕ) (one : Layout) → layout_named text ≡ Some one → text ≡ layout_text one
-unfolding layout_named
-layout_by_text text one h =
-    let by = found (λ own. bytes_eq own text) layout_text (λ l. l) all_layouts one h in
-    sym (ap layout_text by.1.1 ∙ same_text (layout_text by.0) text by.1.0)
-
 pub of_singles : NamesAreOfSingles
 of_singles = record {
-  syncs = λ text one. (sync_by_single text one, single_sync text one);
-  accesses = λ text one. (access_by_single text one, single_access text one);
+  syncs = singles sync_text one_sync sync_named sync_name sync_are;
+  accesses = singles access_text one_access access_named access_name access_are;
   layouts = λ text one. (layout_by_text text one, λ is. ap layout_named is ∙ layout_of_text one);
-  states = λ text one. (state_by_single text one, single_state text one);
+  states = singles state_text one_state state_named state_name state_are;
 }
 
 pub both_ways : NamesGoBothWays
 both_ways = record {
-  syncs = λ text one. (from_sync_text text one, to_sync_text text one);
-  accesses = λ text one. (from_access_text text one, to_access_text text one);
+  syncs = ways sync_text one_sync sync_named sync_name sync_are;
+  accesses = ways access_text one_access access_named access_name access_are;
   layouts = λ text one. (from_layout_text text one, to_layout_text text one);
-  states = λ text one. (from_state_text text one, to_state_text text one);
+  states = ways state_text one_state state_named state_name state_are;
 }

@@ -1,7 +1,6 @@
 -- Laws of the tables that lower Direct3D to Vulkan.
 use Rattle.std.specs.Prelude.{◌≡◌, ◌↔◌, ◌==◌, ◌++◌, ◌∷◌, ℕ, Bool, true, false, List, Some, None}
 use Rattle.std.specs.List.{list_any}
-use Rattle.dx_base.specs.declared.kinds.ListType.{ListType}
 use Rattle.dx_flags.specs.declared.accesses.Access.{Access}
 use Rattle.dx_flags.specs.declared.atoms.Kind.{Kind}
 use Rattle.dx_flags.specs.declared.atoms.Part.{Part}
@@ -13,12 +12,10 @@ use Rattle.dx_flags.specs.AccessNames.{AccessName, access_text}
 use Rattle.dx_flags.specs.Accesses.{one_access}
 use Rattle.dx_flags.specs.Layouts.{layout_allows}
 use Rattle.dx_flags.specs.Parts.{has_part}
-use Rattle.dx_flags.specs.StateNames.{StateName, state_text, UNORDERED_ACCESS}
+use Rattle.dx_flags.specs.StateNames.{StateName, state_text}
 use Rattle.dx_flags.specs.States.{one_state}
 use Rattle.dx_flags.specs.SyncNames.{SyncName, sync_text}
 use Rattle.dx_flags.specs.Syncs.{one_sync, is_well_formed_sync}
-use Rattle.enhanced_barriers.specs.declared.barriers.Barrier.{Barrier}
-use Rattle.enhanced_barriers.specs.Legal.{is_legal}
 use Rattle.vk_types.specs.declared.accesses.Access.{Access as VkAccess}
 use Rattle.vk_types.specs.declared.accesses.Accesses.{Accesses}
 use Rattle.vk_types.specs.declared.stages.Stage.TheVariants.{AllCommands}
@@ -93,18 +90,6 @@ pub record StatesTakeInPairs : Type 0 where
   pub accesses : (state : State) (part : Part) (kind : Kind) (made : VkAccess) →
       state_has_pair state part kind ≡ true → is_made_by kind made ≡ true → stands_for_access (state_of state).1 made ≡ true
 
--- the stages of both sides of a lowered barrier support its accesses
-pub record IsSupportedBarrier (barrier : Barrier) : Type 0 where
-  pub before : supports (stage_of barrier.sync_before) (access_of barrier.access_before) ≡ true
-  pub after : supports (stage_of barrier.sync_after) (access_of barrier.access_after) ≡ true
-
 -- the stages of a barrier's side support its accesses
 abbrev pub is_supported_side : Stages × Accesses → Bool
 is_supported_side side = supports side.0 side.1
-
--- each barrier that is lowered names accesses that its stages support: a legal one, and those that stand for states; a
--- UAV barrier is one between unordered accesses
-pub record LoweredIsSupported : Type 0 where
-  pub barriers : (barrier : Barrier) (list : ListType) (shared : Bool) → is_legal barrier list shared ≡ true → IsSupportedBarrier barrier
-  pub states : (state : State) → is_supported_side (state_of state) ≡ true
-  pub unordered : is_supported_side (state_of (one_state UNORDERED_ACCESS)) ≡ true

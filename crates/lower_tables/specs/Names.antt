@@ -11,11 +11,12 @@ use Rattle.dx_flags.specs.StateNames.{state_bit, state_text, state_names}
 use Rattle.dx_flags.specs.States.{one_state}
 use Rattle.dx_flags.specs.SyncNames.{sync_bit, sync_text, sync_names}
 use Rattle.dx_flags.specs.Syncs.{one_sync}
-use Rattle.lower_tables.specs.Rows.{first_value, value_named}
+use Rattle.trace_words.specs.Rows.{row_of}
+use Rattle.lower_tables.specs.Rows.{first_value}
 
 -- the sync that has a text
 unfoldable pub sync_named : List ℕ → Option Sync
-sync_named text = value_named text (map (λ name. (sync_text name, one_sync name)) sync_names)
+sync_named text = row_of (map (λ name. (sync_text name, one_sync name)) sync_names) text
 
 -- the text of a sync, where a set is a single one
 unfoldable pub sync_name : Sync → Option (List ℕ)
@@ -23,7 +24,7 @@ sync_name one = first_value one.0 (map (λ name. (sync_bit name, sync_text name)
 
 -- the access that has a text
 unfoldable pub access_named : List ℕ → Option Access
-access_named text = value_named text (map (λ name. (access_text name, one_access name)) access_names)
+access_named text = row_of (map (λ name. (access_text name, one_access name)) access_names) text
 
 -- the text of an access, where a set is a single one
 unfoldable pub access_name : Access → Option (List ℕ)
@@ -31,7 +32,7 @@ access_name one = first_value one.0 (map (λ name. (access_bit name, access_text
 
 -- the state that has a text
 unfoldable pub state_named : List ℕ → Option State
-state_named text = value_named text (map (λ name. (state_text name, one_state name)) state_names)
+state_named text = row_of (map (λ name. (state_text name, one_state name)) state_names) text
 
 -- the text of a state, where a union is a single one
 unfoldable pub state_name : State → Option (List ℕ)
@@ -53,7 +54,7 @@ all_layouts = Undefined ∷ Common ∷ GenericRead ∷ UnorderedAccess ∷ Shade
 
 -- the layout that has a text
 unfoldable pub layout_named : List ℕ → Option Layout
-layout_named text = value_named text (map (λ layout. (layout_text layout, layout)) all_layouts)
+layout_named text = row_of (map (λ layout. (layout_text layout, layout)) all_layouts) text
 
 -- the text of a layout, which each has
 abbrev pub layout_name : Layout → Option (List ℕ)

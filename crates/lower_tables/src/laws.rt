@@ -1,6 +1,6 @@
 //! Laws of the tables. The functions do nothing.
 
-ghost use Rattle.lower_tables.specs.Laws.{TheFirstRowCounts, NamesAreOfSingles, NamesGoBothWays, StagesTakeInParts, AccessesTakeInKinds, SyncsHaveStages, LayoutsAllowKinds, StatesTakeInPairs, LoweredIsSupported};
+ghost use Rattle.lower_tables.specs.Laws.{TheFirstRowCounts, NamesAreOfSingles, NamesGoBothWays, StagesTakeInParts, AccessesTakeInKinds, SyncsHaveStages, LayoutsAllowKinds, StatesTakeInPairs};
 
 /// A key finds nothing exactly where no row has it, and a value exactly where that stands in a row with the
 /// key and no row before it has the key.
@@ -41,10 +41,4 @@ pub fn layouts_allow_kinds()
 /// Where a state has a part and a kind, its stages and memory accesses stand for those of the commands.
 pub fn states_take_in_pairs()
     ensures { StatesTakeInPairs }
-{}
-
-/// The lowered form of a legal barrier names no access that its stages do not support, on both sides; nor
-/// does that of a state or of a UAV barrier (Vulkan 1.3, 7.1.3, the table of supported access types).
-pub fn lowered_is_supported()
-    ensures { LoweredIsSupported }
 {}

@@ -7,13 +7,11 @@ mod names;
 mod rows;
 #[cfg(test)]
 mod tests;
-mod texts;
 mod unions;
 
 pub use laws::{
-    accesses_take_in_kinds, layouts_allow_kinds, lowered_is_supported, names_are_of_singles,
-    names_go_both_ways, stages_take_in_parts, states_take_in_pairs, syncs_have_stages,
-    the_first_row_counts,
+    accesses_take_in_kinds, layouts_allow_kinds, names_are_of_singles, names_go_both_ways,
+    stages_take_in_parts, states_take_in_pairs, syncs_have_stages, the_first_row_counts,
 };
 pub use lowering::{access_of, layout_of, stage_of, state_of};
 pub use names::{

@@ -5,8 +5,8 @@ ghost use Rattle.std.specs.Option.{option_map};
 ghost use Rattle.lower_tables.specs.Names.{sync_named, sync_name, access_named, access_name, layout_named, layout_name, state_named, state_name};
 
 use crate::rows::first_row;
-use crate::texts::row_named;
 use dx_flags::{Access, Layout, State, Sync};
+use trace_words::first_row as first_named;
 
 /// Rows of a key and a value.
 macro_rules! rows {
@@ -16,7 +16,7 @@ macro_rules! rows {
 }
 
 /// The sync that has that text. None exactly where no single name has it.
-#[tactic(auto, unfolding(crate::specs::Names::sync_named))]
+#[tactic(auto, unfolding(crate::specs::Names::sync_named, trace_words::specs::Rows::row_of))]
 pub fn sync_named(text: &str) -> Option<Sync>
     ensures { result ≡ sync_named text.now }
 {
@@ -29,7 +29,7 @@ pub fn sync_named(text: &str) -> Option<Sync>
         "COPY" => Sync::COPY;
         "CLEAR_UNORDERED_ACCESS_VIEW" => Sync::CLEAR_UNORDERED_ACCESS_VIEW;
     ];
-    row_named(&rows, text)
+    first_named(&rows, text.as_bytes())
 }
 
 /// The text of a single sync. None exactly where the set is no single one.
@@ -50,7 +50,7 @@ pub fn sync_name(one: Sync) -> Option<&'static str>
 }
 
 /// The access that has that text. None exactly where no single name has it.
-#[tactic(auto, unfolding(crate::specs::Names::access_named))]
+#[tactic(auto, unfolding(crate::specs::Names::access_named, trace_words::specs::Rows::row_of))]
 pub fn access_named(text: &str) -> Option<Access>
     ensures { result ≡ access_named text.now }
 {
@@ -63,7 +63,7 @@ pub fn access_named(text: &str) -> Option<Access>
         "COMMON" => Access::COMMON;
         "NO_ACCESS" => Access::NO_ACCESS;
     ];
-    row_named(&rows, text)
+    first_named(&rows, text.as_bytes())
 }
 
 /// The text of a single access. None exactly where the set is no single one.
@@ -84,7 +84,7 @@ pub fn access_name(one: Access) -> Option<&'static str>
 }
 
 /// The layout that has that text. None exactly where no layout has it.
-#[tactic(auto, unfolding(crate::specs::Names::layout_named))]
+#[tactic(auto, unfolding(crate::specs::Names::layout_named, trace_words::specs::Rows::row_of))]
 pub fn layout_named(text: &str) -> Option<Layout>
     ensures { result ≡ layout_named text.now }
 {
@@ -97,7 +97,7 @@ pub fn layout_named(text: &str) -> Option<Layout>
         "COPY_SOURCE" => Layout::CopySource;
         "COPY_DEST" => Layout::CopyDest;
     ];
-    row_named(&rows, text)
+    first_named(&rows, text.as_bytes())
 }
 
 /// The text of a layout. Each has one.
@@ -116,7 +116,7 @@ pub fn layout_name(one: Layout) -> Option<&'static str>
 }
 
 /// The state that has that text. None exactly where no single name has it.
-#[tactic(auto, unfolding(crate::specs::Names::state_named))]
+#[tactic(auto, unfolding(crate::specs::Names::state_named, trace_words::specs::Rows::row_of))]
 pub fn state_named(text: &str) -> Option<State>
     ensures { result ≡ state_named text.now }
 {
@@ -129,7 +129,7 @@ pub fn state_named(text: &str) -> Option<State>
         "COPY_DEST" => State::COPY_DEST;
         "UNORDERED_ACCESS" => State::UNORDERED_ACCESS;
     ];
-    row_named(&rows, text)
+    first_named(&rows, text.as_bytes())
 }
 
 /// The text of a single state. None exactly where the union is no single one.

@@ -5,8 +5,8 @@ pub mod Summing
 pub mod Searching
 pub mod Walks
 pub mod Placing
-pub mod Setting
 pub mod Earlier
+pub mod DeviceStages
 pub mod Enabled
 pub mod Offered
 pub mod Changing

@@ -3,6 +3,7 @@ use Rattle.std.proofs.Common.{◌≡◌, ℕ, zero, suc, ◌+◌, ◌<◌, ◌�
 use Rattle.std.proofs.lemmas.Option.{slice_get_within, get_or_from_slice_get}
 use Rattle.std.proofs.lemmas.List.{map_more}
 use Rattle.dx_base.specs.Lists.{changed_at}
+pub use Rattle.vk_types.proofs.Lists.{opened, changed_is_set, written_back}
 use Rattle.std.proofs.Math.Seq.{drop-nil}
 use Rattle.std.proofs.Math.ListN.{drop_of_length-le, length-take}
 
@@ -11,13 +12,6 @@ pub item_at : {X : Type 0} (xs : List X) (i : ℕ) → i < length xs → (x : X)
 item_at [] i h = absurd (omega (arith, h))
 item_at (x ∷ xs) zero h = (x, refl)
 item_at (x ∷ xs) (suc i) h = item_at xs i (omega (arith, h))
-
--- a list from a place on begins with the item there
-pub opened : {X : Type 0} (xs : List X) (i : ℕ) (x : X) → slice_get xs i ≡ Some x → drop i xs ≡ x ∷ drop (i + 1) xs
-opened xs i x h =
-    let within : i < length xs = slice_get_within xs i x h in
-    let same : get_or xs i x ≡ x = get_or_from_slice_get xs i x x h in
-    rw (drop-cons xs i x within, same, add-one i) refl
 
 -- the first items of a list keep their places
 pub get_of_take : {X : Type 0} (n : ℕ) (xs : List X) (i : ℕ) → i < n → slice_get (take n xs) i ≡ slice_get xs i
@@ -30,21 +24,11 @@ get_of_take (suc n) (x ∷ xs) (suc i) h = get_of_take n xs i (omega (arith, h))
 pub drop_of_take : {X : Type 0} (n : ℕ) (xs : List X) (i : ℕ) → min n (length xs) ≤ i → drop i (take n xs) ≡ []
 drop_of_take n xs i h = drop_of_length-le (take n xs) {i = i} (rw (length-take n xs) h)
 
--- an item changed is one set
-pub changed_is_set : {X : Type 0} (f : X → X) (k : ℕ) (xs : List X) (d : X) → k < length xs → changed_at f k xs ≡ set xs k (f (get_or xs k d))
-changed_is_set f k [] d h = absurd (omega (arith, h))
-changed_is_set f zero (x ∷ xs) d h = refl
-changed_is_set f (suc k) (x ∷ xs) d h = ap (λ ys. x ∷ ys) (changed_is_set f k xs d (omega (arith, h)))
-
 -- past the end nothing changes
 pub changed_past : {X : Type 0} (f : X → X) (k : ℕ) (xs : List X) → length xs ≤ k → changed_at f k xs ≡ xs
 changed_past f k [] h = refl
 changed_past f zero (x ∷ xs) h = absurd (omega (arith, h))
 changed_past f (suc k) (x ∷ xs) h = ap (λ ys. x ∷ ys) (changed_past f k xs (omega (arith, h)))
-
--- an item that was read, changed and written back
-pub written_back : {X : Type 0} (f : X → X) (k : ℕ) (xs : List X) (x y : X) → k < length xs → x ≡ get_or xs k x → y ≡ f x → set xs k y ≡ changed_at f k xs
-written_back f k xs x y h read changed = sym (changed_is_set f k xs x h ∙ ap (λ z. set xs k (f z)) (sym read) ∙ ap (λ z. set xs k z) (sym changed))
 
 -- a change keeps the length
 pub length_changed : {X : Type 0} (f : X → X) (k : ℕ) (xs : List X) → length (changed_at f k xs) ≡ length xs

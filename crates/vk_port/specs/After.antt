@@ -3,6 +3,7 @@ use Rattle.std.specs.Prelude.{ℕ, suc, ◌+◌, ◌-◌, ◌==◌, true, false,
 use Rattle.dx_base.specs.Lists.{changed_at}
 pub use Rattle.dx_base.specs.Lists.{put, range_of}
 use Rattle.vk_types.specs.declared.batches.Batch.{Batch}
+pub use Rattle.vk_types.specs.Timelines.{after_sets}
 use Rattle.vk_types.specs.declared.commands.VkCommand.{VkCommand}
 use Rattle.vk_types.specs.declared.commands.VkCommand.TheVariants.{Barrier, Copy, CopyImage, CopyIn, CopyOut, Clear, Dispatch}
 use Rattle.vk_port.specs.declared.lanes.Lane.{Lane}
@@ -61,11 +62,6 @@ lane_after_bump lane = record lane { batches = drop 1 lane.batches; passed = lan
 -- what the first batch of a lane sets at its end
 abbrev pub sets_of : Lane → List (ℕ × ℕ)
 sets_of lane = elim (slice_get lane.batches 0) [ None ↦ [] | Some first ↦ first.batch.sets ]
-
--- the timelines after some were set (Vulkan 1.3, 7.4.1: signaling a timeline semaphore)
-abbrev pub after_sets : List (ℕ × ℕ) → List ℕ → List ℕ
-after_sets [] timelines = timelines
-after_sets (pair ∷ pairs) timelines = after_sets pairs (slice_set timelines pair.0 pair.1)
 
 -- the state after a step
 abbrev pub after_step : VkState → Stepped → VkState

@@ -1,17 +1,14 @@
 -- The steps that the Vulkan machine can take.
-use Rattle.std.specs.Prelude.{ℕ, ◌+◌, Bool, true, false, ◌&&◌, List, [], ◌∷◌, ◌++◌, take, nat_lt, nat_le, slice_get, slice_index_or, Some, None, if◌then◌else◌}
+use Rattle.std.specs.Prelude.{ℕ, ◌+◌, Bool, true, false, ◌&&◌, List, [], ◌∷◌, ◌++◌, take, nat_lt, slice_get, Some, None, if◌then◌else◌}
 use Rattle.std.specs.List.{list_all}
 use Rattle.vk_types.specs.declared.commands.VkCommand.{VkCommand}
+pub use Rattle.vk_types.specs.Timelines.{reached}
 use Rattle.vk_port.specs.declared.lanes.Lane.{Lane}
 use Rattle.vk_port.specs.declared.lanes.Running.{Running}
 use Rattle.vk_port.specs.declared.steps.Stepped.{Stepped}
 use Rattle.vk_port.specs.declared.steps.Stepped.TheVariants.{Passed, Ran, Bumped}
 use Rattle.vk_port.specs.VkState.{VkState}
 use Rattle.vk_port.specs.Orders.{can_run}
-
--- each of these waits has its value reached (Vulkan 1.3, 7.4.1: waiting on a timeline semaphore)
-abbrev pub reached : List ℕ → List (ℕ × ℕ) → Bool
-reached timelines waits = list_all (λ wait. nat_le wait.1 (slice_index_or timelines wait.0 0)) waits
 
 -- the pass of the next batch of a lane, where its waits are reached
 abbrev pub ready_pass : List ℕ → ℕ → Lane → List Stepped

@@ -1,6 +1,7 @@
 pub mod VkState
 pub mod Plans
 pub mod Orders
+pub mod DeviceStages
 pub mod Enabled
 pub mod After
 pub mod Left

@@ -2,6 +2,7 @@
 
 ghost use Rattle.std.specs.Prelude.{◌≡◌};
 ghost use Rattle.vk_port.specs.Ahead.{no_ahead, with_stages, with_command, lets_stages, lets, summary};
+ghost use Rattle.vk_port.specs.DeviceStages.{is_closed, is_of_device as does_wait};
 ghost use Rattle.vk_port.specs.Enabled.{undone};
 
 use crate::lanes::Running;
@@ -74,6 +75,13 @@ impl Ahead {
         self.to & stages.whole() == 0
     }
 
+    /// Whether they hold back each stage of the device: a barrier with all of them behind it is among them.
+    pub fn is_closed(self) -> bool
+        ensures { result ≡ is_closed self }
+    {
+        self.to & 7 == 7
+    }
+
     /// The commands of a batch that are not done, too.
     pub fn with_undone(self, running: &Running) -> Ahead
         ensures { result ≡ summary self (undone running.now) }
@@ -87,5 +95,20 @@ impl Ahead {
             ahead = ahead.with(*running.batch.commands.at(i));
         }
         ahead
+    }
+}
+
+/// Whether a command works at, or waits for, a stage of the device.
+pub fn is_of_device(command: &VkCommand) -> bool
+    ensures { result ≡ does_wait command.now }
+{
+    match *command {
+        VkCommand::Barrier { from, .. } => from.whole() & 7 != 0,
+        VkCommand::Copy { .. } => true,
+        VkCommand::CopyImage { .. } => true,
+        VkCommand::CopyIn { .. } => true,
+        VkCommand::CopyOut { .. } => true,
+        VkCommand::Clear { .. } => true,
+        VkCommand::Dispatch { .. } => true,
     }
 }

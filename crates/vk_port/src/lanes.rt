@@ -2,8 +2,10 @@
 
 ghost use Rattle.std.specs.Prelude.{◌≡◌, ◌<◌, length, IfOk, OnOk, OnErr};
 ghost use Rattle.vk_port.specs.After.{place_of, command_at, with_done, lane_after_run, lane_after_pass, lane_after_bump, started, with_batch};
+ghost use Rattle.vk_port.specs.DeviceStages.{batch_of_device};
 ghost use Rattle.vk_port.specs.VkState.{no_lane};
 
+use crate::ahead::is_of_device;
 use dx_base::{Memory, Seq};
 use std::alloc::Global;
 use vk_types::{Batch, VkCommand};
@@ -25,6 +27,17 @@ impl Running {
             batch: batch.copied(alloc)?,
             done: Seq::from_vec(marks),
         })
+    }
+
+    /// Whether each of its commands waits for a stage of the device.
+    pub fn is_of_device(&self) -> bool
+        ensures { result ≡ batch_of_device self.now }
+    {
+        self.batch
+            .commands
+            .as_slice()
+            .iter()
+            .all(|command| is_of_device(command))
     }
 
     /// Marks the command of that place, counted from 1, as done.

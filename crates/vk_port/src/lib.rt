@@ -17,7 +17,6 @@ mod steps;
 mod store;
 #[cfg(test)]
 mod tests;
-mod timelines;
 mod words;
 
 pub use device::VkDevice;

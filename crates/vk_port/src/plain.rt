@@ -18,11 +18,10 @@ use crate::kept::{Kept, Note};
 use crate::sets::Sets;
 use crate::steps::Stepped;
 use crate::store::Store;
-use crate::timelines::value_of;
 use crate::words::copy_at;
 use dx_base::Seq;
 use std::alloc::Global;
-use vk_types::{Batch, DevicePlan};
+use vk_types::{Batch, DevicePlan, timeline_value};
 
 /// A device without caches and without free steps: a command's step does its accesses at once.
 #[derive(Drop)]
@@ -115,7 +114,7 @@ impl VkDevice for PlainDevice {
     }
 
     fn counter(&self, timeline: u32) -> u64 {
-        value_of(&self.store.timelines, timeline)
+        timeline_value(&self.store.timelines, timeline)
     }
 
     fn host_read(&mut self, buffer: u32, first: u32, count: u32) -> Result<Vec<u32>, DeviceFault>

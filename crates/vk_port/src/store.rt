@@ -1,17 +1,17 @@
 //! What a plain device stores.
 
-ghost use Rattle.std.specs.Prelude.{◌≡◌, ◌<◌, ◌-◌, ◌^◌, ◌++◌, min, length, IfOk, OnOk, OnErr};
+ghost use Rattle.std.specs.Prelude.{◌≡◌, ◌<◌, ◌-◌, ◌^◌, ◌++◌, ◌&&◌, min, length, true, IfOk, OnOk, OnErr};
+ghost use Rattle.vk_port.specs.DeviceStages.{batch_of_device, lanes_of_device};
 
 use crate::find::{find_bumps, find_commands, find_passes};
 use crate::found::Found;
 use crate::lanes::{Lane, Running};
 use crate::queues;
 use crate::steps::Stepped;
-use crate::timelines::set_timelines;
 use crate::words::{first_words, put_at, run_found};
 use dx_base::{Memory, Room, Seq};
 use std::alloc::Global;
-use vk_types::{Batch, DevicePlan};
+use vk_types::{Batch, DevicePlan, set_timelines};
 
 /// The words of the buffers, the timelines, all batches that were submitted, and the unfinished ones
 /// of each queue.
@@ -23,7 +23,17 @@ pub struct Store {
     pub lanes: Seq<Lane>,
     /// How many queues there are.
     pub queues: u32,
+    /// Whether each command so far waits for a stage of the device. It is asked once, when a batch comes.
+    pub of_device: bool,
     ghost counted: { length lanes ≡ queues },
+    ghost known: { of_device ≡ true → lanes_of_device lanes ≡ true },
+}
+
+/// Whether each command so far waits for a stage of the device, and each of a batch.
+fn all_of_device(so_far: bool, running: &Running) -> bool
+    ensures { result ≡ (so_far && batch_of_device running.now) }
+{
+    so_far && running.is_of_device()
 }
 
 impl Store {
@@ -47,6 +57,7 @@ impl Store {
             journal: Room::new(alloc),
             lanes: Seq::new(alloc),
             queues: 0,
+            of_device: true,
         }
     }
 
@@ -61,6 +72,7 @@ impl Store {
             journal: Room::new(alloc),
             lanes: queues::first_lanes(alloc, plan.queues)?,
             queues: plan.queues,
+            of_device: true,
         })
     }
 
@@ -78,7 +90,7 @@ impl Store {
     fn find_behind_passes(&self, k: usize) -> Found
         ensures { result ≡ found (commands 0 self.now.lanes ++ bumps 0 self.now.lanes) k }
     {
-        match find_commands(&self.lanes, self.queues, k) {
+        match find_commands(&self.lanes, self.queues, self.of_device, k) {
             Found::At(step) => Found::At(step),
             Found::Left(left) => find_bumps(&self.lanes, self.queues, left),
         }
@@ -103,8 +115,10 @@ impl Store {
         ensures queues { self.new.queues ≡ self.old.queues }
     {
         let running = Running::new(alloc, &batch)?;
+        let of_device = all_of_device(self.of_device, &running);
         self.journal.reserve()?;
         queues::add(&mut self.lanes, batch.queue, running)?;
+        self.of_device = of_device;
         self.journal.push_reserved(batch);
         Ok(())
     }

@@ -1,6 +1,7 @@
 -- The steps that the Vulkan machine can take.
-use Rattle.std.specs.Prelude.{ℕ, Bool, true, false, ◌&&◌, ◌||◌, not, ◌==◌, nat_lt, nat_le, List, length, slice_index_or, Option, Some, None}
+use Rattle.std.specs.Prelude.{ℕ, Bool, true, false, ◌&&◌, ◌||◌, not, ◌==◌, nat_lt, nat_le, List, length, Option, Some, None}
 use Rattle.std.specs.List.{list_all}
+pub use Rattle.vk_types.specs.Timelines.{reached}
 use Rattle.vk_types.specs.declared.commands.VkCommand.{VkCommand}
 use Rattle.vk_types.specs.declared.steps.VkStep.{VkStep}
 use Rattle.vk_types.specs.declared.steps.VkStep.TheVariants.{Submit, Pass, Command, Bump, HostWrite, HostRead, Update}
@@ -11,10 +12,6 @@ use Rattle.vk_sync_rules.specs.Orders.{sort_of, orders}
 use Rattle.vk_sync_rules.specs.Places.{is_before}
 use Rattle.vk_sync_rules.specs.Registers.{slots_of}
 use Rattle.vk_sync_rules.specs.VkState.{VkState, Placed, counts_of, placed, placed_from, command_at, is_done, batch_in}
-
--- each of these waits has its value reached (Vulkan 1.3, 7.4.2: waiting on a timeline semaphore)
-abbrev pub reached : List ℕ → List (ℕ × ℕ) → Bool
-reached timelines waits = list_all (λ (wait : ℕ × ℕ). nat_le wait.1 (slice_index_or timelines wait.0 0)) waits
 
 -- a batch of a queue has passed and has not ended
 abbrev pub is_running : Counts → ℕ → Bool

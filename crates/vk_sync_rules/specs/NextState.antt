@@ -3,6 +3,7 @@ use Rattle.std.specs.Prelude.{ℕ, ◌+◌, Bool, true, false, ◌&&◌, ◌||�
 use Rattle.std.specs.List.{list_all, list_any, flat_map}
 use Rattle.dx_base.specs.Lists.{changed_at}
 use Rattle.dx_base.specs.declared.kinds.Class.TheVariants.{Uav}
+pub use Rattle.vk_types.specs.Timelines.{after_sets}
 use Rattle.vk_types.specs.declared.accesses.Accesses.{Accesses}
 use Rattle.vk_types.specs.declared.batches.Batch.{Batch}
 use Rattle.vk_types.specs.declared.commands.VkCommand.{VkCommand}
@@ -175,11 +176,6 @@ waits_in b = elim b [ None ↦ [] | Some b ↦ b.waits ]
 
 abbrev pub sets_in : Option Batch → List (ℕ × ℕ)
 sets_in b = elim b [ None ↦ [] | Some b ↦ b.sets ]
-
--- the timelines after some were set (Vulkan 1.3, 7.4.1)
-abbrev pub after_sets : List (ℕ × ℕ) → List ℕ → List ℕ
-after_sets [] timelines = timelines
-after_sets (pair ∷ pairs) timelines = after_sets pairs (slice_set timelines pair.0 pair.1)
 
 -- no batch that passed is unfinished
 abbrev pub is_idle : Counts → Bool

@@ -9,9 +9,8 @@ use crate::journal::{are_done, batch_in, command_at, counts_of, is_done, is_free
 use crate::machine::VkMachine;
 use crate::places::Place;
 use crate::slots::slots_of;
-use crate::timeline_values::are_reached;
 use dx_base::Seq;
-use vk_types::{VkCommand, VkStep};
+use vk_types::{VkCommand, VkStep, are_reached};
 
 impl VkMachine {
     /// Whether a batch can pass.

@@ -1,5 +1,5 @@
 //! The Vulkan machine: the rules of queues, barriers, timeline semaphores and memory accesses (Vulkan 1.3,
-//! chapter 7) as definitions, with their laws.
+//! chapter 7) as definitions with their laws, and `VkMachine`, which judges a list of steps by them.
 #![tactic(auto)]
 
 mod access_sets;
@@ -34,9 +34,9 @@ mod runs;
 mod scopes;
 mod sizes;
 mod slots;
+mod state_parts;
 #[cfg(test)]
 mod tests;
-mod timeline_values;
 mod updates;
 mod verdicts;
 

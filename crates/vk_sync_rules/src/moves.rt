@@ -14,10 +14,9 @@ use crate::journal::batch_in;
 use crate::machine::VkMachine;
 use crate::rules::VkRule;
 use crate::scopes::{all_ended, all_passed, all_submitted};
-use crate::timeline_values::set_timelines;
 use dx_base::{Memory, Seq};
 use std::alloc::Global;
-use vk_types::Batch;
+use vk_types::{Batch, set_timelines};
 
 /// The first of two rules, if there is one.
 pub(crate) fn first_rule(broken: Option<VkRule>, rule: Option<VkRule>) -> Option<VkRule>

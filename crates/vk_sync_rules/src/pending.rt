@@ -10,9 +10,8 @@ use crate::counts::Counts;
 use crate::journal::counts_of;
 use crate::machine::VkMachine;
 use crate::rules::VkRule;
-use crate::timeline_values::value_of;
 use dx_base::Seq;
-use vk_types::Batch;
+use vk_types::{Batch, timeline_value};
 
 /// A timeline and a value.
 type Pair = (u32, u64);
@@ -127,14 +126,15 @@ impl VkMachine {
     fn is_new(&self, pair: Pair) -> bool
         ensures { result ≡ is_new (state_of self.now) pair }
     {
-        value_of(&self.timelines, pair.0) < pair.1 && all_below(pair, &self.queues, &self.journal)
+        timeline_value(&self.timelines, pair.0) < pair.1
+            && all_below(pair, &self.queues, &self.journal)
     }
 
     /// Whether a value is near a timeline's, and all that are still to be set or waited for.
     fn is_near_all(&self, pair: Pair) -> bool
         ensures { result ≡ is_near_all (state_of self.now) pair }
     {
-        is_near(pair.1, value_of(&self.timelines, pair.0))
+        is_near(pair.1, timeline_value(&self.timelines, pair.0))
             && all_near(pair, &self.queues, &self.journal)
     }
 

@@ -12,6 +12,7 @@ use vk_types::VkStep;
 /// Whether a step breaks a rule.
 #[derive(Clone, Copy, Debug, PartialEq, Eq)]
 pub enum VkVerdict {
+    /// It breaks none.
     Clean,
     /// The least rule that it breaks.
     Broken(VkRule),

@@ -3,4 +3,5 @@ pub mod Stages
 pub mod Accesses
 pub mod Support
 pub mod Supported
+pub mod Timelines
 pub mod Whole

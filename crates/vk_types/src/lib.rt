@@ -14,6 +14,7 @@ mod steps;
 mod support;
 #[cfg(test)]
 mod tests;
+mod timelines;
 
 pub use accesses::{Access, AccessGroup, Accesses};
 pub use batches::Batch;
@@ -25,3 +26,4 @@ pub use registers::{Count, Register};
 pub use stages::{Stage, Stages};
 pub use steps::VkStep;
 pub use support::{supports, supports_access};
+pub use timelines::{are_reached, set_timelines, timeline_value};

@@ -1,7 +1,9 @@
 -- Each turn searches one command that is not done.
 use Rattle.std.proofs.Common.{◌<◌, ◌+◌, ◌∙◌, length, arith, sym, ap}
+use Rattle.std.proofs.lemmas.Bool.{and_parts}
+use Rattle.vk_port.specs.DeviceStages.{is_closed}
 use Rattle.vk_port.specs.Found.{found}
-use Rattle.vk_port.proofs.Searching.{batch_ends, batch_goes_on}
+use Rattle.vk_port.proofs.Searching.{batch_ends, batch_goes_on, batch_is_through}
 use Rattle.vk_port.proofs.Summing.{steps_skip, steps_end}
 use Rattle.vk_port.proofs.find.find_in_batch.Goals as goal
 
@@ -26,3 +28,10 @@ pub returns : goal.returns
 returns c =
     let end = steps_end c.args.queue c.args.running.now.batch.number (c.loop-i.i + 1) c.loop-i.ahead c.args.running.now.batch.commands c.args.running.now.done c.loop-i.i (omega arith) in
     sym (c.loop-i.invariant ∙ ap (λ steps. found steps c.loop-i.left) end)
+
+pub returns-then-is_last : goal.returns-then-is_last
+returns-then-is_last c =
+    let both = and_parts c.args.of_device (is_closed c.with-ahead.result) (sym c.is_last.ensures ∙ c.if-is_last.true) in
+    batch_is_through c.args.queue c.args.running.now.batch.number (c.loop-i.i + 1) c.loop-i.ahead c.args.running.now.batch.commands c.args.running.now.done c.loop-i.i
+    c.at.result.now c.at-command.result.now c.at-command.ensures c.at.ensures c.if-at.false _ c.loop-i.left c.loop-i.invariant c.lets.result c.lets.ensures c.in-Left.rest
+    c.with-ahead.result c.with-ahead.ensures c.in-Left.ensures both.1 (c.requires both.0)

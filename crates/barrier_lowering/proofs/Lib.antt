@@ -1,0 +1,10 @@
+pub mod NumberTables
+pub mod LayoutPlaces
+pub mod LastChanges
+pub mod Underway
+pub mod Turns
+pub mod ExactChanges
+pub mod Startup
+pub mod BarrierScopes
+pub mod TableOrder
+pub mod SupportedSides

@@ -1,0 +1,9 @@
+pub mod Numbers
+pub mod Barriers
+pub mod Layouts
+pub mod Lowering
+pub mod ImageChanges
+pub mod Lowered
+pub mod Laws
+pub mod TableLaws
+pub mod Supported
