@@ -338,6 +338,24 @@ room_set [] k y h r e = cc
 room_set (x ∷ xs) zero y h r e = subst (λ z. 1 ≤ z.spare) (some_is y r e) h
 room_set (x ∷ xs) (suc k) y h r e = room_set xs k y h r e
 
+-- there is room in every list that is not there
+pub room_nowhere : {T : Type 0} (xs : List (Roomy T)) (k : ℕ) → length xs ≤ k → HasRoom xs k
+room_nowhere [] k l r e = cc
+room_nowhere (x ∷ xs) zero l r e = absurd (omega (arith, l))
+room_nowhere (x ∷ xs) (suc k) l r e = room_nowhere xs k (omega (arith, l)) r e
+
+-- and nothing is put there
+pub pushed_nowhere : (us : List (Roomy FenceUpdate)) (k : ℕ) (u : Update) → length us ≤ k → map updates_in us ≡ changed_at (λ xs. xs ++ u ∷ []) k (map updates_in us)
+pushed_nowhere [] k u l = refl
+pushed_nowhere (x ∷ us) zero u l = absurd (omega (arith, l))
+pushed_nowhere (x ∷ us) (suc k) u l = ap (λ t. updates_in x ∷ t) (pushed_nowhere us k u (omega (arith, l)))
+
+-- the oldest operation of a queue, as the clocks of the fold have it
+pub oldest_is : (ps : List (Roomy GivenWork)) (q : ℕ) → head (item_or [] (map pending_in ps) q) ≡ option_map pending_of (oldest_work ps q)
+oldest_is [] q = refl
+oldest_is (r ∷ ps) zero = head_is pending_of r.items
+oldest_is (r ∷ ps) (suc q) = oldest_is ps q
+
 pub on_ok : {A E P Q : Type 0} (r : Result A E) → (P → Q) → OnOk r P → OnOk r Q
 on_ok (Ok x) f h = f h
 on_ok (Err e) f h = h

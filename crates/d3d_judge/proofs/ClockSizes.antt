@@ -41,7 +41,7 @@ sized_op n m q k c l s = let e = s.queues_are in record { queues_are = length_nu
 updates_at : (n m : ℕ) (uss : List (List Update)) (f : ℕ) → Each (λ us. Each (λ u. IsSized n m u.clock) us) uss → Each (λ u. IsSized n m u.clock) (item_or [] uss f)
 updates_at n m uss f h = each_at (λ us. Each (λ u. IsSized n m u.clock) us) [] uss f tt h
 
-sized_clock : (n m f t : ℕ) (s : Clocks) → t < m → AreSized n m f s → IsSized n m (call_clock s t)
+pub sized_clock : (n m f t : ℕ) (s : Clocks) → t < m → AreSized n m f s → IsSized n m (call_clock s t)
 sized_clock n m f t s l z = sized_call n m t (suc (number s.ends.threads t)) (thread_clock s t) l (each_item (IsSized n m) empty_clock s.threads t (let e = z.thread_count in omega (arith, l, e)) z.of_threads)
 
 sized_effect : (n m f t : ℕ) (s : Clocks) (c : Clock) (what : Deed) → IsSized n m c → AreSized n m f s → AreSized n m f (effect s t c what)
@@ -105,7 +105,7 @@ sized_marked n m f s p (Signals k v) a z g = sized_empty n m a g
 sized_marked n m f s p (Waits k v) a z g =
     sized_sufficient n m v (drop p.since (item_or [] s.updates k)) a (each_drop (λ u. IsSized n m u.clock) p.since (item_or [] s.updates k) (updates_at n m s.updates k z.of_updates)) g
 
-sized_completing : (n m f q : ℕ) (s : Clocks) (p : Pending) → q < n → IsSized n m p.clock → AreSized n m f s → IsSized n m (completing s q p)
+pub sized_completing : (n m f q : ℕ) (s : Clocks) (p : Pending) → q < n → IsSized n m p.clock → AreSized n m f s → IsSized n m (completing s q p)
 sized_completing n m f q s p l g z =
     sized_op n m q (next_number s q) (queue_joined s q p) l
     (sized_marked n m f s p p.what (joined p.clock (queue_clock s q)) z

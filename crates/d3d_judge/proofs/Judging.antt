@@ -9,9 +9,9 @@ use Rattle.d3d_machine.specs.State.{State, first_state}
 use Rattle.d3d_machine.specs.Effects.{after, after_all}
 use Rattle.d3d_machine.specs.Play.{state_after}
 use Rattle.d3d_judge.specs.Made.{made_in_work, made_in_head, made_in_call, made_by, made_from}
-use Rattle.d3d_judge.specs.declared.rules.Rule.{Rule}
-use Rattle.d3d_judge.specs.declared.rules.Verdict.{Verdict}
-use Rattle.d3d_judge.specs.declared.rules.Verdict.TheVariants.{Clean, Broken}
+use Rattle.verdicts.specs.declared.rules.Rule.{Rule}
+use Rattle.verdicts.specs.declared.rules.Verdict.{Verdict}
+use Rattle.verdicts.specs.declared.rules.Verdict.TheVariants.{Clean, Broken}
 use Rattle.d3d_judge.specs.Carried.{Clocks, Pending, head_of, next_number, queue_joined, carried, carried_all, clocks_after, first_clocks}
 use Rattle.d3d_judge.specs.Commands.{Command}
 use Rattle.d3d_judge.specs.Covering.{Known}
@@ -40,7 +40,7 @@ module _ (base : Setting) where
       verdict_cases j.verdict (λ c. c)
       (λ r n b. not_both j.verdict r n b (subst (λ v. (unless_broken v (judged_next (found_in base j e).broken (found_in base j e) (carried j.clocks e) j) j).verdict ≡ Clean) b h))
 
-  step_is : (j : Judged) (e : Happening) → j.verdict ≡ Clean → judge_step base j e ≡ judged_next (found_in base j e).broken (found_in base j e) (carried j.clocks e) j
+  pub step_is : (j : Judged) (e : Happening) → j.verdict ≡ Clean → judge_step base j e ≡ judged_next (found_in base j e).broken (found_in base j e) (carried j.clocks e) j
   step_is j e c = ap (λ v. unless_broken v (judged_next (found_in base j e).broken (found_in base j e) (carried j.clocks e) j) j) c
 
   nothing_found : (o : Option Rule) (f : Found) (s : Clocks) (j : Judged) → (judged_next o f s j).verdict ≡ Clean → o ≡ None
@@ -128,7 +128,7 @@ happenings_append : (w : World) (s : State) (h more : List Event) → happenings
 happenings_append w s [] more = refl
 happenings_append w s (e ∷ h) more = ap (λ t. happening_of w s.desk e ∷ t) (happenings_append w (after w s e) h more)
 
-after_more : (w : World) (h more : List Event) → judge_after w (h ++ more) ≡ judge_all (setting_of w) (judge_after w h) (happenings_from w (state_after w h) more)
+pub after_more : (w : World) (h more : List Event) → judge_after w (h ++ more) ≡ judge_all (setting_of w) (judge_after w h) (happenings_from w (state_after w h) more)
 after_more w h more =
     ap (judge_all (setting_of w) (first_judged (setting_of w))) (happenings_append w (first_state w) h more)
     ∙ judge_append (setting_of w) (first_judged (setting_of w)) (happenings w h) (happenings_from w (state_after w h) more)

@@ -6,8 +6,8 @@ use Rattle.dx_base.specs.Each.{Each}
 use Rattle.clocks.specs.declared.clock.Clock.{Clock}
 use Rattle.clocks.specs.Clocks.{Act, knows}
 use Rattle.dx_flags.specs.declared.atoms.Part.{Part}
-use Rattle.d3d_judge.specs.declared.rules.Rule.{Rule}
-use Rattle.d3d_judge.specs.declared.rules.Rule.TheVariants as rule
+use Rattle.verdicts.specs.declared.rules.Rule.{Rule}
+use Rattle.verdicts.specs.declared.rules.Rule.TheVariants as rule
 use Rattle.d3d_judge.specs.Commands.{Range, Access, Command, Accesses, Bars}
 use Rattle.d3d_judge.specs.Setting.{Setting}
 use Rattle.d3d_judge.specs.Touches.{Touch, meets, is_operation, breaks_one, breaks_ten, touch_of, touch_of_barrier}

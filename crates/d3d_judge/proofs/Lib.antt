@@ -20,3 +20,14 @@ pub mod WordTouches
 pub mod ClockSizes
 pub mod TableShapes
 pub mod CoverPlaces
+pub mod Walks
+pub mod CopyScopes
+pub mod CopyReady
+pub mod CopyRules
+pub mod InsideWords
+pub mod Steady
+pub mod Standing
+pub mod Calls
+pub mod HostAccesses
+pub mod Completions
+pub mod Next

@@ -7,7 +7,7 @@ use Rattle.clocks.specs.declared.clock.Clock.{Clock}
 use Rattle.clocks.specs.Clocks.{Act}
 use Rattle.dx_flags.specs.declared.atoms.Part.{Part}
 use Rattle.enhanced_barriers.specs.declared.barriers.Barrier.{Barrier}
-use Rattle.d3d_judge.specs.declared.rules.Rule.TheVariants as rule
+use Rattle.verdicts.specs.declared.rules.Rule.TheVariants as rule
 use Rattle.d3d_judge.specs.Commands.{Access, Command, Accesses, Bars, is_change}
 use Rattle.d3d_judge.specs.Setting.{Setting}
 use Rattle.d3d_judge.specs.Touches.{Touch, overlaps, breaks_one, touch_of_barrier}

@@ -2,7 +2,7 @@
 use Rattle.std.proofs.Common.{ℕ, zero, suc, ◌≡◌, List, [], ◌∷◌, ◌++◌, drop, slice_get, subst, sym, refl, arith, Option, Some, None}
 use Rattle.clocks.specs.declared.clock.Clock.{Clock}
 use Rattle.clocks.specs.Clocks.{Act}
-use Rattle.d3d_judge.specs.declared.rules.Rule.{Rule}
+use Rattle.verdicts.specs.declared.rules.Rule.{Rule}
 use Rattle.d3d_judge.specs.Commands.{Command, Accesses, Bars}
 use Rattle.d3d_judge.specs.Setting.{Setting}
 use Rattle.d3d_judge.specs.Touches.{Touch}

@@ -1,5 +1,5 @@
 -- The tables of one subresource tell as much of B1 and B10 as the list of all that was touched.
-use Rattle.std.proofs.Common.{ℕ, arith, ◌≡◌, ◌<◌, ◌≤◌, ◌+◌, ◌==◌, ◌&&◌, ◌∙◌, refl, ap, sym, subst, List, [], ◌∷◌, ◌++◌, length, replicate, Bool, true, false, Option, Some, None, Result, Ok, Err}
+use Rattle.std.proofs.Common.{ℕ, zero, suc, arith, ◌≡◌, ◌<◌, ◌≤◌, ◌+◌, ◌==◌, ◌&&◌, ◌∙◌, refl, ap, sym, subst, List, [], ◌∷◌, ◌++◌, length, replicate, Bool, true, false, Option, Some, None, Result, Ok, Err}
 use Rattle.std.specs.Result.{OnOk, OnErr}
 use Rattle.std.proofs.lemmas.List.{length-replicate}
 use Rattle.dx_base.specs.Each.{Each}
@@ -13,7 +13,8 @@ use Rattle.d3d_judge.specs.Carried.{item_or}
 use Rattle.d3d_judge.specs.Tables.{any_below, conflicts_in, is_of_queue, is_of_thread, OfQueues, OfThreads, number_of}
 use Rattle.d3d_judge.specs.Touches.{Reads, Writes, Touch, conflict, breaks_one, breaks_ten}
 use Rattle.d3d_judge.specs.ActorTables.{actor_above, AreTied, AreMade, raised_table, made_table}
-use Rattle.d3d_judge.specs.SubTables.{doing_if, scopes_against, calls_against, IsTied, no_touches, IsWide, after_scope, after_call, HasScopeTables, HasCallTables, KeepTies, IsWideIfThere, KeepShape}
+use Rattle.d3d_judge.specs.SubTables.{doing_if, scopes_against, calls_against, IsTied, no_touches, IsWide, raised_if, after_scope, after_call, HasScopeTables, HasCallTables, KeepTies, IsWideIfThere, KeepShape, KeepScopeTables}
+use Rattle.word_trees.proofs.Numbers.{length_raised}
 use Rattle.d3d_judge.specs.declared.sub_tables.SubTables.{SubTables}
 use Rattle.d3d_judge.proofs.ActorTables.{queues_tell, threads_tell, tied_first, tied_made, tied_raised, tied_missed, item_here}
 use Rattle.d3d_judge.proofs.Tables.{is_same, is_other}
@@ -225,4 +226,49 @@ thread_shape x words a w t res mw mt et queues threads h = record {
   queue_touches = h.queue_touches;
   thread_writes = wide_kept {A = Unit {0}} {E = Unit {0}} words a x.thread_writes w (Ok tt) mw tt h.thread_writes;
   thread_touches = wide_kept words a x.thread_touches t res mt et h.thread_touches;
+}
+
+-- a table that is there stays, where a change keeps it
+wide_changed : (end : ℕ) (f : Option (List ℕ) → Option (List ℕ)) → ((o : Option (List ℕ)) → IsWide end o → IsWide end (f o)) → (a q : ℕ) (tables : List (Option (List ℕ))) →
+    IsWide end (item_or None tables q) → IsWide end (item_or None (changed_at f a tables) q)
+wide_changed end f k a q [] h = h
+wide_changed end f k zero zero (o ∷ os) h = k o h
+wide_changed end f k zero (suc q) (o ∷ os) h = h
+wide_changed end f k (suc a) zero (o ∷ os) h = h
+wide_changed end f k (suc a) (suc q) (o ∷ os) h = wide_changed end f k a q os h
+
+made_stays : (end n : ℕ) (o : Option (List ℕ)) → IsWide end o → IsWide end (made_table n o)
+made_stays end n None h = absurd h
+made_stays end n (Some zs) h = h
+
+tables_stay : {A E : Type 0} (words a end q : ℕ) (old new : List (Option (List ℕ))) (r : Result A E) → OnOk r (AreMade words old a new) → OnErr r (new ≡ old) →
+    IsWide end (item_or None old q) → IsWide end (item_or None new q)
+tables_stay words a end q old new (Ok x) m e h =
+    subst (λ y. IsWide end (item_or None y q)) (sym m.tables) (wide_changed end (made_table m.made) (made_stays end m.made) a q old h)
+tables_stay words a end q old new (Err x) m e h = subst (λ y. IsWide end (item_or None y q)) (sym e) h
+
+pub queue_tables_stay : {A E : Type 0} (x : SubTables) (words a : ℕ) (w t : List (Option (List ℕ))) (r : Result A E) → AreMade words x.queue_writes a w →
+    OnOk r (AreMade words x.queue_touches a t) → OnErr r (t ≡ x.queue_touches) → KeepScopeTables x (record x { queue_writes = w; queue_touches = t })
+queue_tables_stay x words a w t res mw mt et q end h = record {
+  writes = tables_stay {A = Unit {0}} {E = Unit {0}} words a end q x.queue_writes w (Ok tt) mw tt h.writes;
+  touches = tables_stay words a end q x.queue_touches t res mt et h.touches;
+}
+
+-- the tables of threads are no tables of queues
+pub thread_tables_stay : (x : SubTables) (w t : List (Option (List ℕ))) → KeepScopeTables x (record x { thread_writes = w; thread_touches = t })
+thread_tables_stay x w t q end h = record { writes = h.writes; touches = h.touches }
+
+raised_stays : (end first last n : ℕ) (o : Option (List ℕ)) → IsWide end o → IsWide end (raised_table first last n o)
+raised_stays end first last n None h = absurd h
+raised_stays end first last n (Some zs) h = let e = length_raised 0 first last n zs in omega (arith, h, e)
+
+raised_if_stays : (b : Bool) (end first last n a q : ℕ) (tables : List (Option (List ℕ))) → IsWide end (item_or None tables q) → IsWide end (item_or None (raised_if b first last n a tables) q)
+raised_if_stays true end first last n a q tables h = wide_changed end (raised_table first last n) (raised_stays end first last n) a q tables h
+raised_if_stays false end first last n a q tables h = h
+
+-- what an operation touches takes no table away
+pub scope_tables_stay : (p n first last : ℕ) (writes : Bool) (x : SubTables) → KeepScopeTables x (after_scope p writes first last n x)
+scope_tables_stay p n first last writes x q end h = record {
+  writes = raised_if_stays writes end first last n p q x.queue_writes h.writes;
+  touches = wide_changed end (raised_table first last n) (raised_stays end first last n) p q x.queue_touches h.touches;
 }

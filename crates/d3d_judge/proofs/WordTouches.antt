@@ -1,5 +1,5 @@
 -- The tables of all resources tell as much of B1 and B10 as the list of all that was touched.
-use Rattle.std.proofs.Common.{ℕ, zero, suc, ◌≡◌, ◌<◌, ◌≤◌, ◌+◌, ◌==◌, ◌&&◌, ◌||◌, not, map, ◌∙◌, refl, ap, sym, subst, arith, List, [], ◌∷◌, ◌++◌, length, Bool, true, false, Some, None, slice_get, slice_set, get_or, option_map, inl, inr, Result, Ok, Err}
+use Rattle.std.proofs.Common.{ℕ, zero, suc, ◌≡◌, ◌<◌, ◌≤◌, ◌+◌, ◌==◌, ◌&&◌, ◌||◌, not, map, ◌∙◌, refl, ap, sym, subst, arith, List, [], ◌∷◌, ◌++◌, length, Bool, true, false, Some, None, slice_get, slice_set, get_or, option_map, inl, inr, Option, Result, Ok, Err}
 use Rattle.std.specs.Result.{OnOk}
 use Rattle.std.proofs.lemmas.Bool.{cases_eq}
 use Rattle.dx_base.specs.Each.{Each}
@@ -13,12 +13,12 @@ use Rattle.d3d_judge.specs.Setting.{Traits}
 use Rattle.d3d_judge.specs.Tables.{any_below}
 use Rattle.d3d_judge.specs.Touches.{Touch, meets, is_operation, breaks_one, breaks_ten, breaks_ten_host}
 use Rattle.d3d_judge.specs.ActorTables.{actor_above, AreMade}
-use Rattle.d3d_judge.specs.SubTables.{scopes_against, calls_against, no_touches, IsTied, after_scope, after_call, IsShaped, KeepShape}
-use Rattle.d3d_judge.specs.WordTouches.{touch_by, AreAllTied, HasSub, HasQueue, HasThread, TellsOne, TellsTen, HaveOneMore, HasTablesOfQueue, HasTablesOfThread, TellsHost, untouched, SubKept, KeepAllTies, SubsShaped, AreShaped, words_at, KeepShapes, IsWideAt, AreQueuesMade, AreThreadsMade}
+use Rattle.d3d_judge.specs.SubTables.{scopes_against, calls_against, no_touches, IsTied, after_scope, after_call, IsShaped, KeepShape, HasScopeTables}
+use Rattle.d3d_judge.specs.WordTouches.{touch_by, AreAllTied, HasSub, HasQueue, HasThread, TellsOne, TellsTen, HaveOneMore, HasTablesOfQueue, HasTablesOfThread, TellsHost, untouched, SubKept, KeepAllTies, SubsShaped, AreShaped, words_at, KeepShapes, KeepQueueTables, IsWideAt, AreQueuesMade, AreThreadsMade, after_scope_at}
 use Rattle.d3d_judge.specs.declared.sub_tables.SubTables.{SubTables}
 use Rattle.d3d_judge.specs.declared.word_touches.WordAccess.{WordAccess}
 use Rattle.d3d_judge.proofs.CarriedClocks.{got, some_is, item_got}
-use Rattle.d3d_judge.proofs.SubTables.{scopes_tell, calls_tell, scope_added, call_added, other_added, tied_none, wide_less, wide_here}
+use Rattle.d3d_judge.proofs.SubTables.{scopes_tell, calls_tell, scope_added, call_added, other_added, tied_none, wide_less, wide_here, scope_tables_stay}
 use Rattle.d3d_judge.proofs.Tables.{is_other}
 
 -- the subresources of a resource that was found
@@ -127,17 +127,19 @@ pub or_else : (b d : Bool) → b ≡ false → (b || d) ≡ d
 or_else true d e = cc
 or_else false d e = refl
 
--- one subresource replaced by one that has what was touched
-pub all_kept : (words r s : ℕ) (all new : List (List SubTables)) (xs ys : List SubTables) → slice_get all r ≡ Some xs → SubKept words s xs ys → new ≡ changed_at (λ _. ys) r all → KeepAllTies all new
-all_kept words r s all new xs ys er k en made h u v zs z eu ev =
+-- one subresource replaced by another: what holds of each, and of the new one where it held of the old, holds of each
+all_become : (P : ℕ → ℕ → SubTables → Type 0) (words r s : ℕ) (all new : List (List SubTables)) (xs ys : List SubTables) → slice_get all r ≡ Some xs → (k : SubKept words s xs ys) → new ≡ changed_at (λ _. ys) r all →
+    (P r s k.before → P r s k.after) → ((u v : ℕ) (zs : List SubTables) (z : SubTables) → slice_get all u ≡ Some zs → slice_get zs v ≡ Some z → P u v z) →
+    (u v : ℕ) (zs : List SubTables) (z : SubTables) → slice_get new u ≡ Some zs → slice_get zs v ≡ Some z → P u v z
+all_become P words r s all new xs ys er k en go h u v zs z eu ev =
     elim (cases_eq r u) [
       | inl e ↦
           let zs_is : zs ≡ changed_at (λ _. k.after) s xs = some_is zs ys (sym eu ∙ (ap (λ j. slice_get new j) (sym e) ∙ (ap (λ j. slice_get j r) en ∙ (get_changed (λ _. ys) all r ∙ ap (option_map (λ _. ys)) er)))) ∙ k.set in
           elim (cases_eq s v) [
             | inl g ↦
                 let z_is : z ≡ k.after = some_is z k.after (sym ev ∙ (ap (λ j. slice_get zs j) (sym g) ∙ (ap (λ j. slice_get j s) zs_is ∙ (get_changed (λ _. k.after) xs s ∙ ap (option_map (λ _. k.after)) k.found)))) in
-                subst (λ j. IsTied j v made z) e (subst (λ j. IsTied r j made z) g
-                (subst (λ j. IsTied r s made j) (sym z_is) (k.ties r s made (h r s xs k.before er k.found))))
+                subst (λ j. P j v z) e (subst (λ j. P r j z) g
+                (subst (λ j. P r s j) (sym z_is) (go (h r s xs k.before er k.found))))
             | inr n ↦
                 let old : slice_get xs v ≡ Some z = sym (ap (λ j. slice_get j v) zs_is ∙ get_changed_other (λ _. k.after) xs s v n) ∙ ev in
                 h u v xs z (ap (λ j. slice_get all j) (sym e) ∙ er) old
@@ -146,6 +148,18 @@ all_kept words r s all new xs ys er k en made h u v zs z eu ev =
           let old : slice_get all u ≡ Some zs = sym (ap (λ j. slice_get j u) en ∙ get_changed_other (λ _. ys) all r u n) ∙ eu in
           h u v zs z old ev
     ]
+
+-- one subresource replaced by one that has what was touched
+pub all_kept : (words r s : ℕ) (all new : List (List SubTables)) (xs ys : List SubTables) → slice_get all r ≡ Some xs → SubKept words s xs ys → new ≡ changed_at (λ _. ys) r all → KeepAllTies all new
+all_kept words r s all new xs ys er k en made h = all_become (λ u v z. IsTied u v made z) words r s all new xs ys er k en (k.ties r s made) h
+
+-- and by one that has the tables of queues that were there
+pub all_keep_tables : (words r s : ℕ) (all new : List (List SubTables)) (xs ys : List SubTables) → slice_get all r ≡ Some xs → SubKept words s xs ys → new ≡ changed_at (λ _. ys) r all → KeepQueueTables all new
+all_keep_tables words r s all new xs ys er k en q a h zs z eu ev =
+    all_become (λ u v y. u ≡ a.resource → v ≡ a.sub → HasScopeTables q (a.first + a.words) y) words r s all new xs ys er k en
+    (λ f d e. k.tables q (a.first + a.words) (f d e))
+    (λ u v us y fu fv d e. h us y (ap (λ j. slice_get all j) (sym d) ∙ fu) (ap (λ j. slice_get us j) (sym e) ∙ fv))
+    a.resource a.sub zs z eu ev refl refl
 
 subs_shaped : (queues threads : ℕ) (ns : List ℕ) (xs : List SubTables) (s : ℕ) (x y : SubTables) → slice_get xs s ≡ Some x → KeepShape (item_or 0 ns s) x y →
     SubsShaped queues threads ns xs → SubsShaped queues threads ns (changed_at (λ _. y) s xs)
@@ -218,3 +232,26 @@ threads_made words q s xs x y (Ok k) l g w t =
       touches = λ u v eu ev. let hu : x ≡ u = some_is x u (sym found ∙ eu) in let hv : y ≡ v = some_is y v (sym after ∙ ev) in
           subst (λ j. AreMade words j.thread_touches q v.thread_touches) hu (subst (λ j. AreMade words x.thread_touches q j.thread_touches) hv t);
     }
+
+-- the item that a changed list has at a place was one before
+item_before : {A : Type 0} (f : A → A) (k : ℕ) (xs : List A) (i : ℕ) (y : A) (P : A → Type 0) → ((x : A) → P x → P (f x)) → ((x : A) → slice_get xs i ≡ Some x → P x) → slice_get (changed_at f k xs) i ≡ Some y → P y
+item_before {A} f k xs i y P keeps h e =
+    elim (cases_eq k i) [
+      | inl g ↦ of_changed (slice_get xs i) refl (sym (ap (λ j. slice_get (changed_at f j xs) i) g) ∙ e)
+      | inr n ↦ h y (sym (get_changed_other f xs k i n) ∙ e)
+    ]
+  where
+    of_changed : (o : Option A) → slice_get xs i ≡ o → slice_get (changed_at f i xs) i ≡ Some y → P y
+    of_changed None d e2 = let m : option_map f (slice_get xs i) ≡ Some y = sym (get_changed f xs i) ∙ e2 in absurd (cc)
+    of_changed (Some x) d e2 =
+        let m : Some (f x) ≡ Some y = sym (get_changed f xs i ∙ ap (option_map f) d) ∙ e2 in
+        subst P (some_is (f x) y m) (keeps x (h x d))
+
+-- what an operation touches takes no table of a queue away
+pub scope_tables_kept : (p n : ℕ) (b : WordAccess) (all : List (List SubTables)) → KeepQueueTables all (after_scope_at p n b all)
+scope_tables_kept p n b all q a h zs z eu ev =
+    item_before (changed_at (after_scope p b.writes b.first (b.first + b.words) n) b.sub) b.resource all a.resource zs
+    (λ us. (y : SubTables) → slice_get us a.sub ≡ Some y → HasScopeTables q (a.first + a.words) y)
+    (λ us g y ey. item_before (after_scope p b.writes b.first (b.first + b.words) n) b.sub us a.sub y (HasScopeTables q (a.first + a.words))
+    (λ x k. scope_tables_stay p n b.first (b.first + b.words) b.writes x q (a.first + a.words) k) g ey)
+    (λ us eus y ey. h us y eus ey) eu z ev

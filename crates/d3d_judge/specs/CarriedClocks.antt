@@ -87,10 +87,10 @@ oldest_in (Some r) = slice_get r.items 0
 abbrev pub oldest_work : List (Roomy GivenWork) → ℕ → Option GivenWork
 oldest_work ps q = oldest_in (slice_get ps q)
 
--- there is room for the update that an operation gives a fence
+-- there is room for the update that an operation gives a fence, where there is that fence
 abbrev pub IsRoomFor : List (Roomy FenceUpdate) → Operation → Type 0
 IsRoomFor us (operation.Execute cs) = Unit {0}
-IsRoomFor us (operation.Signal f v) = (f.0 < length us) × HasRoom us f.0
+IsRoomFor us (operation.Signal f v) = HasRoom us f.0
 
 -- there is room for the update that the oldest operation of a queue gives a fence
 abbrev pub HasRoomFor : CarriedClocks → ℕ → Type 0

@@ -5,10 +5,10 @@ use Rattle.clocks.specs.Clocks.{OfQueue}
 use Rattle.dx_flags.specs.declared.layouts.Layout.{Layout}
 use Rattle.d3d_machine.specs.declared.events.Event.{Event}
 use Rattle.d3d_machine.specs.declared.world.World.{World}
-use Rattle.d3d_judge.specs.declared.rules.Rule.{Rule}
-use Rattle.d3d_judge.specs.declared.rules.Rule.TheVariants as rule
-use Rattle.d3d_judge.specs.declared.rules.Verdict.{Verdict}
-use Rattle.d3d_judge.specs.declared.rules.Verdict.TheVariants.{Clean, Broken}
+use Rattle.verdicts.specs.declared.rules.Rule.{Rule}
+use Rattle.verdicts.specs.declared.rules.Rule.TheVariants as rule
+use Rattle.verdicts.specs.declared.rules.Verdict.{Verdict}
+use Rattle.verdicts.specs.declared.rules.Verdict.TheVariants.{Clean, Broken}
 use Rattle.d3d_judge.specs.Carried.{Clocks, Pending, call_clock, head_of, next_number, queue_joined, carried}
 use Rattle.d3d_judge.specs.Commands.{Range, Command}
 use Rattle.d3d_judge.specs.Made.{host_touch}

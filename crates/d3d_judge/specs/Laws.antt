@@ -12,8 +12,8 @@ use Rattle.d3d_machine.specs.declared.world.World.{World}
 use Rattle.d3d_machine.specs.Play.{state_after}
 use Rattle.d3d_machine.specs.RightWords.{with_right_words}
 use Rattle.d3d_judge.specs.Made.{touches_of, made_from}
-use Rattle.d3d_judge.specs.declared.rules.Rule.{Rule}
-use Rattle.d3d_judge.specs.declared.rules.Verdict.TheVariants.{Clean, Broken}
+use Rattle.verdicts.specs.declared.rules.Rule.{Rule}
+use Rattle.verdicts.specs.declared.rules.Verdict.TheVariants.{Clean, Broken}
 use Rattle.d3d_judge.specs.Ahead.{Behind, forgotten}
 use Rattle.d3d_judge.specs.Carried.{Clocks, Pending, Sound, Fresh, carried, carried_all, clocks_after, head_of, queue_joined, first_clocks}
 use Rattle.d3d_judge.specs.Commands.{Range, Access, pair_of, Command, Accesses, Bars, is_change}

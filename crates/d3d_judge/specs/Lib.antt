@@ -1,4 +1,3 @@
-pub mod Rules
 pub mod Commands
 pub mod Happenings
 pub mod Carried
@@ -18,3 +17,6 @@ pub mod ActorTables
 pub mod SubTables
 pub mod WordTouches
 pub mod CoverPlaces
+pub mod Fed
+pub mod CopyScopes
+pub mod JudgeParts

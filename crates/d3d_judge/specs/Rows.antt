@@ -23,7 +23,7 @@ use Rattle.d3d_machine.specs.declared.events.Event.{Event}
 use Rattle.d3d_machine.specs.declared.events.Event.TheVariants as event
 use Rattle.d3d_machine.specs.declared.world.Resource.TheVariants.{Buffer}
 use Rattle.d3d_machine.specs.declared.world.World.{World}
-use Rattle.d3d_judge.specs.declared.rules.Verdict.{Verdict}
+use Rattle.verdicts.specs.declared.rules.Verdict.{Verdict}
 use Rattle.d3d_judge.specs.Carried.{first_clocks}
 use Rattle.d3d_judge.specs.Commands.{Range, Command, Accesses, Bars, copied_from, copied_to}
 use Rattle.d3d_judge.specs.Judged.{judge_happenings}

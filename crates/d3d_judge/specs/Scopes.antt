@@ -16,8 +16,8 @@ use Rattle.enhanced_barriers.specs.Cover.{before_has, after_has}
 use Rattle.enhanced_barriers.specs.Legal.{is_undefined}
 use Rattle.clocks.specs.declared.clock.Clock.{Clock}
 use Rattle.clocks.specs.Clocks.{Act}
-use Rattle.d3d_judge.specs.declared.rules.Rule.{Rule}
-use Rattle.d3d_judge.specs.declared.rules.Rule.TheVariants as rule
+use Rattle.verdicts.specs.declared.rules.Rule.{Rule}
+use Rattle.verdicts.specs.declared.rules.Rule.TheVariants as rule
 use Rattle.d3d_judge.specs.Commands.{Range, Access, Pair, pair_of, Command, Accesses, Bars, chains, is_none, same_layout, is_change}
 use Rattle.d3d_judge.specs.Setting.{Traits, Setting, traits_at, layout_at}
 use Rattle.d3d_judge.specs.Touches.{Doing, Changes, Touch, conflict, overlaps, breaks_one, breaks_ten, doing_of, touch_of, touch_of_barrier}

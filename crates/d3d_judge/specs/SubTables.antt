@@ -70,6 +70,10 @@ pub record HasCallTables (t end : ℕ) (x : SubTables) : Type 0 where
   pub writes : IsWide end (item_or None x.thread_writes t)
   pub touches : IsWide end (item_or None x.thread_touches t)
 
+-- tables that are there stay, and are as wide
+abbrev pub KeepScopeTables : SubTables → SubTables → Type 0
+KeepScopeTables x y = (q end : ℕ) → HasScopeTables q end x → HasScopeTables q end y
+
 -- as many tables of queues, and of threads
 pub record HasActors (queues threads : ℕ) (x : SubTables) : Type 0 where
   pub queue_writes : length x.queue_writes ≡ queues

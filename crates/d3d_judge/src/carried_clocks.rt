@@ -1,7 +1,7 @@
 //! The clocks of a history so far, as they are carried from event to event.
 
 ghost use Rattle.std.specs.Prelude.{◌≡◌, ◌<◌, ◌≤◌, ◌+◌, ◌-◌, ◌^◌, ◌++◌, ◌∷◌, [], suc, length, map, drop, slice_get, Some, replicate, IfOk, OnOk};
-ghost use Rattle.std.specs.Option.{option_map};
+ghost use Rattle.std.specs.Option.{option_map, option_copied};
 ghost use Rattle.dx_base.specs.Each.{Each};
 ghost use Rattle.dx_base.specs.Lists.{changed_at};
 ghost use Rattle.clocks.specs.Clocks.{number, joined, with_call, with_op, empty_clock, zero_clock};
@@ -83,9 +83,8 @@ impl CarriedClocks {
         reserve_work(&mut self.pending, queue)
     }
 
-    /// Makes room for an update of a fence.
+    /// Makes room for an update of a fence, where there is that fence.
     pub fn make_room_for_update(&mut self, fence: u32) -> Result<(), Memory>
-        requires { fence < length self.old.updates }
         ensures room { OnOk result (HasRoom self.new.updates fence) }
         ensures clocks { clocks_of self.new ≡ clocks_of self.old }
         ensures pending { self.new.pending ≡ self.old.pending }
@@ -174,36 +173,93 @@ impl CarriedClocks {
         thread_learns_latest(&mut self.threads, thread, updates.as_slice());
     }
 
-    /// The oldest operation of a queue completes, where it has one.
-    pub fn complete(&mut self, queue: u32)
+    /// The oldest operation of a queue, where it has one.
+    pub fn oldest(&self, queue: u32) -> Option<&Operation>
+        requires { queue < length self.now.pending }
+        ensures { option_copied result ≡ option_map (λ p. p.operation) (oldest_work self.now.pending queue) }
+    {
+        match self.pending.at(queue as usize).front() {
+            None => None,
+            Some(work) => Some(&work.operation),
+        }
+    }
+
+    /// How many operations of each queue are complete, and how many calls of each thread were made.
+    pub fn counts(&self, alloc: Global) -> Result<Clock, Memory>
+        ensures { IfOk result (λ clock. clock ≡ self.now.ends) }
+    {
+        self.ends.copied(alloc)
+    }
+
+    /// What a queue knows: all that its last complete operation knows.
+    #[tactic(auto, using(crate::proofs::CarriedClocks::item_got))]
+    pub fn queue_clock(&self, queue: u32) -> &Clock
+        requires { queue < length self.now.queues }
+        ensures { result.now ≡ item_or empty_clock self.now.queues queue }
+    {
+        self.queues.at(queue as usize)
+    }
+
+    /// What a thread knows.
+    #[tactic(auto, using(crate::proofs::CarriedClocks::item_got))]
+    pub fn thread_clock(&self, thread: u32) -> &Clock
+        requires { thread < length self.now.threads }
+        ensures { result.now ≡ item_or empty_clock self.now.threads thread }
+    {
+        self.threads.at(thread as usize)
+    }
+
+    /// The number of the last complete operation of a queue.
+    #[tactic(auto, using(crate::proofs::CarriedClocks::number_is))]
+    pub fn last_operation(&self, queue: u32) -> u64
+        requires { queue < length self.now.ends.queues }
+        ensures { result ≡ number self.now.ends.queues queue }
+    {
+        self.ends.queues.as_slice()[queue as usize]
+    }
+
+    /// The number of the last call of a thread.
+    #[tactic(auto, using(crate::proofs::CarriedClocks::number_is))]
+    pub fn last_call(&self, thread: u32) -> u64
+        requires { thread < length self.now.ends.threads }
+        ensures { result ≡ number self.now.ends.threads thread }
+    {
+        self.ends.threads.as_slice()[thread as usize]
+    }
+
+    /// The oldest operation of a queue completes, where it has one, and is handed back.
+    pub fn complete(&mut self, queue: u32) -> Option<Operation>
         requires sized { AreSized (length self.old.queues) (length self.old.threads) (length self.old.updates) (clocks_of self.old) }
         requires queue { queue < length self.old.queues }
         requires small { number self.old.ends.queues queue + 1 < 2 ^ 64 }
         requires room { HasRoomFor self.old queue }
-        ensures { clocks_of self.new ≡ carried (clocks_of self.old) (Completes queue) }
+        ensures clocks { clocks_of self.new ≡ carried (clocks_of self.old) (Completes queue) }
+        ensures operation { result ≡ option_map (λ p. p.operation) (oldest_work self.old.pending queue) }
     {
         match take_work(&mut self.pending, queue) {
-            None => (),
-            Some(work) => self.complete_work(queue, work),
+            None => None,
+            Some(work) => Some(self.complete_work(queue, work)),
         }
     }
 
     /// What the completion of an operation changes beside the queue's pending operations.
-    fn complete_work(&mut self, queue: u32, work: GivenWork)
+    fn complete_work(&mut self, queue: u32, work: GivenWork) -> Operation
         requires queue { queue < length self.old.queues }
         requires counted { queue < length self.old.ends.queues }
         requires small { number self.old.ends.queues queue + 1 < 2 ^ 64 }
         requires alike { Each (λ c. SameSize c work.clock) self.old.queues }
         requires numbers { queue < length work.clock.queues }
         requires room { IsRoomFor self.old.updates work.operation }
-        ensures { clocks_of self.new ≡ worked (clocks_of self.old) queue (pending_of work) }
+        ensures clocks { clocks_of self.new ≡ worked (clocks_of self.old) queue (pending_of work) }
+        ensures operation { result ≡ work.operation }
     {
         let GivenWork { operation, clock } = work;
         let number = next_number(&self.ends.queues, queue);
         let clock = completing_clock(clock, &self.queues, queue, number);
         self.ends.set_op(queue, number);
         set_clock(&mut self.queues, queue, &clock);
-        apply(&mut self.updates, operation, clock);
+        apply(&mut self.updates, &operation, clock);
+        operation
     }
 
     /// A thread goes on behind its wait.
@@ -303,8 +359,20 @@ fn reserve_work(pending: &mut Seq<Fifo<GivenWork>>, queue: u32) -> Result<(), Me
     pending.at_mut(queue as usize).reserve()
 }
 
-/// Makes room for an update of a fence.
+/// Makes room for an update of a fence, where there is that fence.
+#[tactic(auto, using(crate::proofs::CarriedClocks::room_nowhere))]
 fn reserve_update(updates: &mut Seq<Room<FenceUpdate>>, fence: u32) -> Result<(), Memory>
+    ensures room { OnOk result (HasRoom updates.new fence) }
+    ensures same { map updates_in updates.new ≡ map updates_in updates.old }
+{
+    if fence as usize >= updates.len() {
+        return Ok(());
+    }
+    reserve_update_at(updates, fence)
+}
+
+/// Makes room for an update of a fence.
+fn reserve_update_at(updates: &mut Seq<Room<FenceUpdate>>, fence: u32) -> Result<(), Memory>
     requires { fence < length updates.old }
     ensures room { OnOk result (HasRoom updates.new fence) }
     ensures same { map updates_in updates.new ≡ map updates_in updates.old }
@@ -345,15 +413,28 @@ fn set_clock(queues: &mut Seq<Clock>, queue: u32, clock: &Clock)
 }
 
 /// An operation that completes gives its fence an update, where it is a signal.
-fn apply(updates: &mut Seq<Room<FenceUpdate>>, operation: Operation, clock: Clock)
-    requires { IsRoomFor updates.old operation }
-    ensures { map updates_in updates.new ≡ updated clock (work_of operation) (map updates_in updates.old) }
+fn apply(updates: &mut Seq<Room<FenceUpdate>>, operation: &Operation, clock: Clock)
+    requires { IsRoomFor updates.old operation.now }
+    ensures { map updates_in updates.new ≡ updated clock (work_of operation.now) (map updates_in updates.old) }
 {
-    match operation {
-        Operation::Execute { commands } => drop(commands),
+    match *operation {
+        Operation::Execute { commands: _ } => drop(clock),
         Operation::Signal { fence, value } => {
-            push_update(updates, fence.0, FenceUpdate { value, clock })
+            push_where_there(updates, fence.0, FenceUpdate { value, clock })
         }
+    }
+}
+
+/// Puts an update behind those of a fence, where there is that fence.
+#[tactic(auto, using(dx_base::proofs::Lists::changed_past, crate::proofs::CarriedClocks::pushed_nowhere))]
+fn push_where_there(updates: &mut Seq<Room<FenceUpdate>>, fence: u32, update: FenceUpdate)
+    requires { HasRoom updates.old fence }
+    ensures { map updates_in updates.new ≡ changed_at (λ us. us ++ update_of update ∷ []) fence (map updates_in updates.old) }
+{
+    if (fence as usize) < updates.len() {
+        push_update(updates, fence, update);
+    } else {
+        drop(update);
     }
 }
 

@@ -3,11 +3,16 @@
 
 mod actor_tables;
 mod carried_clocks;
+mod copies;
 mod cover_places;
+mod host_accesses;
+mod judge;
+mod judge_parts;
+mod kept;
 pub mod laws;
 pub mod rows;
-mod rules;
 mod sub_tables;
 mod word_touches;
 
-pub use rules::{Rule, Verdict};
+pub use judge::{FeedFault, Judge};
+pub use verdicts::{Rule, Verdict};

@@ -4,8 +4,8 @@ ghost use Rattle.std.specs.Prelude.{◌≡◌, [], ◌∷◌, Some, None};
 ghost use Rattle.dx_flags.specs.declared.layouts.Layout.TheVariants as layout;
 ghost use Rattle.dx_flags.specs.AccessNames as access;
 ghost use Rattle.dx_flags.specs.SyncNames as sync;
-ghost use Rattle.d3d_judge.specs.declared.rules.Rule.TheVariants.{B1, B2, B3, B4, B5, B10, B12};
-ghost use Rattle.d3d_judge.specs.declared.rules.Verdict.TheVariants.{Clean, Broken};
+ghost use Rattle.verdicts.specs.declared.rules.Rule.TheVariants.{B1, B2, B3, B4, B5, B10, B12};
+ghost use Rattle.verdicts.specs.declared.rules.Verdict.TheVariants.{Clean, Broken};
 ghost use Rattle.d3d_judge.specs.Judged.{judge};
 ghost use Rattle.d3d_judge.specs.Rows.{all_from, into_y, out_of_y, y_written_to_read, all_read, all_written_to, b, copies_halves, copies_twice, d, d_to_b, d_written_to, e_written_to, from_readback, into_upload, into_x, judge_scope, judge_two, judge_two_in_order, marked_later, marked_wait, nothing_of_d, one_queue_twice, out_of_x, read_behind_a_value, read_behind_a_wait, read_behind_an_older_value, read_too_early, read_unknown, reads_stay, refused_read, small_world, two_queues, two_queues_in_order, two_readers, u_to_d, view_of_x, whole_way, within_d, write_too_early, x_from_none, x_to_any, x_written_to_read};
 

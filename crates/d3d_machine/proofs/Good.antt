@@ -1,7 +1,7 @@
 -- All commands of lists and of operations are good, whatever the events.
 use Rattle.std.proofs.Common.{ℕ, zero, suc, ◌≡◌, ◌∙◌, ap, refl, List, [], ◌∷◌, length, map, Some, None, Option, Bool, true, false}
 use Rattle.std.specs.List.{list_all}
-use Rattle.std.specs.Prelude.{◌==◌, not, nat_le, if◌then◌else◌}
+use Rattle.std.specs.Prelude.{◌==◌, not, nat_le, drop, if◌then◌else◌}
 use Rattle.dx_base.specs.Effects.{At, changed_by}
 use Rattle.dx_base.specs.declared.hresult.Hresult.{Hresult}
 use Rattle.dx_base.specs.declared.hresult.Hresult.TheVariants.{InvalidArg, Fail}
@@ -16,7 +16,10 @@ use Rattle.d3d_machine.specs.declared.events.Event.TheVariants as event
 use Rattle.d3d_machine.specs.State.{Desk, State, first_state, list_of, declared_list}
 use Rattle.d3d_machine.specs.CallEffects.{here_of, Change, records, closes, fails, begins, Task, executes, signals}
 use Rattle.d3d_machine.specs.Replies.{refuse_if, argument_error, record_error, is_copy}
-use Rattle.d3d_machine.specs.Effects.{changed, recorded, recorded_or, kept_or, gathered, operation_of, operation_given, done, dropped, head_of, desk_after, after}
+use Rattle.d3d_machine.specs.Effects.{changed, recorded, recorded_or, kept_or, gathered, operation_of, operation_given, with_one, done, dropped, head_of, desk_after_operation, desk_after, after, after_all}
+use Rattle.d3d_machine.specs.Laws.{RecordedAreGood}
+use Rattle.d3d_machine.specs.Play.{state_after}
+use Rattle.d3d_machine.specs.declared.events.Operation.TheVariants as operation
 use Rattle.d3d_machine.specs.Operations.{called_by, operations_from, operations}
 use Rattle.d3d_machine.specs.Good.{is_good_record, is_good_command, is_good_list, is_good_operation}
 use Rattle.d3d_machine.proofs.Short.{operation_lists}
@@ -104,3 +107,45 @@ declared_good w (x ∷ xs) = declared_good w xs
 -- every command of every operation that a history called is good
 pub operations_are_good : (w : World) (h : List Event) (q : ℕ) → list_all (is_good_operation w) (operations w h q) ≡ true
 operations_are_good w h q = from_good w (first_state w) q h (declared_good w w.lists)
+
+abbrev AreCalledGood : World → List (List Operation) → Type 0
+AreCalledGood w called = list_all (λ os. list_all (is_good_operation w) os) called ≡ true
+
+given_good : (w : World) (lists : List Listed) (o : Option (At Task)) (called : List (List Operation)) → AreGood w lists → AreCalledGood w called →
+    AreCalledGood w (changed_by with_one (operation_given lists o) called)
+given_good w lists None called good all = all
+given_good w lists (Some x) called good all =
+    all_changed (λ os. list_all (is_good_operation w) os) (with_one (operation_of lists x.what)) x.place called all
+    (λ os h. all_append (is_good_operation w) os (operation_of lists x.what ∷ []) h (and_of (is_good_operation w (operation_of lists x.what)) true (task_good w lists x.what good) refl))
+
+rest_good : (w : World) (os : List Operation) → list_all (is_good_operation w) os ≡ true → list_all (is_good_operation w) (drop 1 os) ≡ true
+rest_good w [] h = refl
+rest_good w (o ∷ os) h = (and_both (is_good_operation w o) (list_all (is_good_operation w) os) h).1
+
+called_by_operation : (d : Desk) (o : Option Operation) → (desk_after_operation d o).called ≡ d.called
+called_by_operation d None = refl
+called_by_operation d (Some (operation.Execute commands)) = refl
+called_by_operation d (Some (operation.Signal f v)) = refl
+
+event_called_good : (w : World) (d : Desk) (e : Event) → AreGood w d.lists → AreCalledGood w d.called → AreCalledGood w (desk_after w d e).called
+event_called_good w d (event.Call t c r) good all = given_good w d.lists (done w d.lists c).gives d.called good all
+event_called_good w d (event.Awake t) good all = all
+event_called_good w d (event.Queue q) good all =
+    ap (list_all (λ os. list_all (is_good_operation w) os)) (called_by_operation (dropped d q.0) (head_of d q.0))
+    ∙ all_changed (λ os. list_all (is_good_operation w) os) (drop 1) q.0 d.called all (rest_good w)
+
+both_good : (w : World) (s : State) (h : List Event) → AreGood w s.desk.lists → AreCalledGood w s.desk.called →
+    AreGood w (after_all w s h).desk.lists × AreCalledGood w (after_all w s h).desk.called
+both_good w s [] good all = (good, all)
+both_good w s (e ∷ h) good all = both_good w (after w s e) h (event_good w s.desk e good) (event_called_good w s.desk e good all)
+
+none_called : {A : Type 0} (w : World) (xs : List A) → list_all (λ os. list_all (is_good_operation w) os) (map (λ _. []) xs) ≡ true
+none_called w [] = refl
+none_called w (x ∷ xs) = none_called w xs
+
+-- every command of every list, and of every called operation that is not complete, is good
+pub recorded_are_good : RecordedAreGood
+recorded_are_good = record {
+  lists = λ w h. (both_good w (first_state w) h (declared_good w w.lists) (none_called w w.queues)).0;
+  called = λ w h. (both_good w (first_state w) h (declared_good w w.lists) (none_called w w.queues)).1;
+}

@@ -1,5 +1,6 @@
 -- Laws of the machine: of its steps, of refused calls, of scripts, and of waits.
-use Rattle.std.specs.Prelude.{ℕ, ◌≡◌, ◌++◌, ◌∷◌, [], List, Option, Some, None}
+use Rattle.std.specs.Prelude.{ℕ, ◌≡◌, ◌++◌, ◌∷◌, [], List, Option, Some, None, true}
+use Rattle.std.specs.List.{list_all}
 use Rattle.dx_base.specs.Lists.{changed_at}
 use Rattle.dx_base.specs.declared.hresult.Hresult.{Hresult}
 use Rattle.dx_base.specs.declared.ids.QueueId.{QueueId}
@@ -15,6 +16,7 @@ use Rattle.d3d_machine.specs.World.{IsWorld}
 use Rattle.d3d_machine.specs.CallEffects.{does}
 use Rattle.d3d_machine.specs.State.{State, Waiting, list_of, place_of, is_recording}
 use Rattle.d3d_machine.specs.Effects.{one_call_more}
+use Rattle.d3d_machine.specs.Good.{is_good_list, is_good_operation}
 use Rattle.d3d_machine.specs.Lists.{failed_lists_if}
 use Rattle.d3d_machine.specs.Marks.{IsMetSince}
 use Rattle.d3d_machine.specs.Play.{AreOfScripts, May, SameReply, IsRunButWords, state_after}
@@ -61,3 +63,9 @@ abbrev pub WaitsAreMetSince : Type 0
 WaitsAreMetSince =
     (w : World) (h : List Event) → IsWorld w → IsRunButWords w h → (t : ℕ) (x : Waiting) →
     (place_of (state_after w h).desk t).waits ≡ Some x → IsMetSince w h t x
+
+-- in every history each command of a list, and of a called operation that is not complete, names live buffers, and its
+-- ranges are whole words inside them that do not overlap
+pub record RecordedAreGood : Type 0 where
+  pub lists : (w : World) (h : List Event) → list_all (is_good_list w) (state_after w h).desk.lists ≡ true
+  pub called : (w : World) (h : List Event) → list_all (λ os. list_all (is_good_operation w) os) (state_after w h).desk.called ≡ true

@@ -1,6 +1,6 @@
 //! Laws of the machine. The functions do nothing.
 
-ghost use Rattle.d3d_machine.specs.Laws.{StepsMay, RefusedCallsHaveNoEffect, RunsFollowScripts, WaitsAreMetSince};
+ghost use Rattle.d3d_machine.specs.Laws.{StepsMay, RefusedCallsHaveNoEffect, RunsFollowScripts, WaitsAreMetSince, RecordedAreGood};
 ghost use Rattle.d3d_machine.specs.Past.{PastsAreRight, PastsHaveOperations};
 ghost use Rattle.d3d_machine.specs.RightWords.{WordsAreApart};
 
@@ -53,4 +53,11 @@ pub fn pasts_have_operations()
 #[tactic(auto, using(crate::proofs::RightWords::words_are_apart))]
 pub fn words_are_apart()
     ensures { WordsAreApart }
+{}
+
+/// In every history each command of a list, and of a called operation that is not complete, names live buffers,
+/// and its ranges are whole words inside them that do not overlap: what is recorded lies inside its resources.
+#[tactic(auto, using(crate::proofs::Good::recorded_are_good))]
+pub fn recorded_commands_lie_inside()
+    ensures { RecordedAreGood }
 {}

@@ -2,11 +2,11 @@
 #![tactic(auto)]
 
 use chooser::PcgChooser;
+use run_text::{Status, plain_line};
 use std::process::ExitCode;
 use std::{env, io};
 use text_io::{Sink, StdSink, StdSource, write_all};
 use trace_runner::simulate;
-use trace_text::{Status, plain_line};
 use vk_port::PlainDevice;
 
 /// The words behind the program's name. OutOfMemory: memory was refused. Any other error: an argument

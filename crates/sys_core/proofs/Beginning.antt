@@ -11,6 +11,8 @@ use Rattle.sys_core.specs.Parts.{queued, updates_in, no_queue, opening_seat}
 use Rattle.sys_core.specs.Consistent.{IsConsistent}
 use Rattle.sys_core.specs.Keeps.{Keeps}
 use Rattle.sys_core.proofs.Opening.{consistent_open}
+use Rattle.sys_core.proofs.WaitSearches.{searched_first}
+use Rattle.sys_core.specs.WaitSearches.{AreSearched}
 use Rattle.sys_core.specs.Opened.{opened}
 use Rattle.sys_core.specs.Steps.{after_submits}
 
@@ -31,4 +33,5 @@ begins state plan_of w world p d lists seats fences held device plan numbers = r
       (consistent_open w world)))));
   plan = plan;
   numbers = numbers;
+  searched = subst (AreSearched (map updates_in p.fences)) (sym seats) (searched_first (map updates_in p.fences) w.scripts);
 }

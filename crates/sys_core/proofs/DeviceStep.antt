@@ -27,6 +27,8 @@ use Rattle.sys_core.specs.Parts.{Queued, queued, updates_in, first_signal, signa
 use Rattle.sys_core.specs.Consistent.{IsConsistent}
 use Rattle.sys_core.specs.Lowering.{AreNumbers}
 use Rattle.sys_core.specs.Keeps.{Keeps}
+use Rattle.sys_core.specs.WaitSearches.{AreSearched}
+use Rattle.sys_core.proofs.WaitSearches.{searched_signal}
 use Rattle.sys_core.proofs.Updates.{room_numbered}
 use Rattle.sys_core.proofs.Bumping.{consistent_pass, consistent_run, consistent_start, consistent_end}
 
@@ -72,6 +74,7 @@ module _ {D : Type 0} (state : D → VkState) (plan_of : D → Option DevicePlan
     consistent = subst (λ x. IsConsistent w h r.lists r.seats (map updates_in r.fences) (map queued r.held) x) (sym after) (moved w h p r v seems is);
     plan = plan ∙ keeps.plan;
     numbers = subst (AreNumbers w.resources) (sym seems.numbers) keeps.numbers;
+    searched = subst (λ us. AreSearched us r.seats) (sym seems.fences) (subst (AreSearched (map updates_in p.fences)) (sym seems.seats) keeps.searched);
   }
 
   pub keeps_stays : (r : Parts) (e : D) → Seems p r → state e ≡ state d → plan_of e ≡ plan_of d → Keeps state plan_of w h r e
@@ -143,6 +146,9 @@ module _ {D : Type 0} (state : D → VkState) (plan_of : D → Option DevicePlan
             (subst (λ x. IsConsistent w k x p.seats fences_now held_now v) (sym lists) is))));
         plan = plan ∙ keeps.plan;
         numbers = subst (AreNumbers w.resources) (sym numbers) keeps.numbers;
+        searched =
+            subst (λ us. AreSearched us r.seats) (sym fences)
+            (subst (AreSearched fences_now) (sym seats) (searched_signal (map updates_in p.fences) (signal_at n (queued y)) p.seats keeps.searched));
       }
 
   -- there is room for the signal of the operation whose batch ends

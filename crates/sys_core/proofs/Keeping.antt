@@ -10,7 +10,7 @@ use Rattle.d3d_machine.specs.declared.calls.Call.{Call}
 use Rattle.d3d_machine.specs.declared.events.Listed.{Listed}
 use Rattle.dx_base.specs.Effects.{At, changed_by}
 use Rattle.d3d_machine.specs.CallEffects.{does}
-use Rattle.d3d_machine.specs.Effects.{with_one}
+use Rattle.d3d_machine.specs.Effects.{with_one, done}
 use Rattle.d3d_machine.proofs.CallEffects.{wait_sets_none}
 use Rattle.d3d_machine.specs.declared.events.Event.{Event}
 use Rattle.d3d_machine.specs.declared.events.Event.TheVariants as event
@@ -28,8 +28,10 @@ use Rattle.sys_core.specs.Consistent.{IsConsistent}
 use Rattle.sys_core.specs.Lowering.{AreNumbers}
 use Rattle.sys_core.specs.Serving.{Serves, StaysParts}
 use Rattle.sys_core.specs.Keeps.{Keeps, ready_by}
+use Rattle.sys_core.specs.WaitSearches.{AreSearched}
 use Rattle.sys_core.proofs.PastParts.{place_now}
 use Rattle.sys_core.proofs.Calling.{changed_ext, consistent_call, consistent_awake}
+use Rattle.sys_core.proofs.WaitSearches.{searched_call, searched_set, searched_awake}
 
 -- the machine's place of a thread, from the system's
 pub place_is : (w : World) (h : List Event) (p : Parts) (v : VkState) (t : ℕ) (s : Seat) →
@@ -64,6 +66,7 @@ keeps_same state plan_of w h p r d e keeps stays device plan = record {
       (subst (λ x. IsConsistent w h x p.seats (map updates_in p.fences) (map queued p.held) (state d)) (sym stays.lists) keeps.consistent))));
   plan = plan ∙ keeps.plan;
   numbers = subst (AreNumbers w.resources) (sym stays.numbers) keeps.numbers;
+  searched = subst (λ us. AreSearched us r.seats) (sym stays.fences) (subst (AreSearched (map updates_in p.fences)) (sym stays.seats) keeps.searched);
 }
 
 -- only a wait looks at the fences, and it leaves them
@@ -92,9 +95,10 @@ keeps_call state plan_of w h p r x d e t c s keeps at waits next serves device p
     consistent_call w h p.lists p.seats us (map queued p.held) (state d) t c keeps.consistent
     (ap (λ (y : Place). y.waits) place ∙ ap (λ o. option_map (waiting_from us) (option_map wait_since o)) waits)
     (ap (λ (y : Place). slice_get (script_of w t.0) y.made) place ∙ next) in
+    let placed : x.seats ≡ changed_at (seat_after (fences_by w p.lists c us) c) t.0 p.seats =
+    seats ∙ ap (λ fs. changed_at (seat_after fs c) t.0 r.seats) serves.fences ∙ ap (changed_at (seat_after (fences_by w p.lists c us) c) t.0) serves.seats in
     let seated : x.seats ≡ changed_at (seat_after us c) t.0 p.seats =
-    seats ∙ ap (λ fs. changed_at (seat_after fs c) t.0 r.seats) serves.fences ∙ ap (changed_at (seat_after (fences_by w p.lists c us) c) t.0) serves.seats
-    ∙ changed_ext (seat_after (fences_by w p.lists c us) c) (seat_after us c) t.0 p.seats (seat_unmoved w p.lists c us) in
+    placed ∙ changed_ext (seat_after (fences_by w p.lists c us) c) (seat_after us c) t.0 p.seats (seat_unmoved w p.lists c us) in
     record {
       consistent =
           subst (λ y. IsConsistent w k x.lists x.seats (map updates_in x.fences) (map queued x.held) y) (sym device)
@@ -105,6 +109,10 @@ keeps_call state plan_of w h p r x d e t c s keeps at waits next serves device p
           (sym (lists ∙ serves.lists)) is))));
       plan = plan ∙ keeps.plan;
       numbers = subst (AreNumbers w.resources) (sym (numbers ∙ serves.numbers)) keeps.numbers;
+      searched =
+          subst (λ xs. AreSearched xs x.seats) (sym (ap (map updates_in) fences ∙ serves.fences))
+          (subst (AreSearched (fences_by w p.lists c us)) (sym placed)
+          (searched_call (fences_by w p.lists c us) c t.0 p.seats (searched_set us (done w p.lists c).sets p.seats keeps.searched)));
     }
 
 -- a thread woke
@@ -129,4 +137,23 @@ keeps_awake state plan_of w h p x d t s a keeps at waits ready lists fences held
           (subst (λ y. IsConsistent w k y (changed_at woken_seat t.0 p.seats) (map updates_in p.fences) (map queued p.held) (state d)) (sym lists) is)));
       plan = keeps.plan;
       numbers = subst (AreNumbers w.resources) (sym numbers) keeps.numbers;
+      searched =
+          subst (λ y. AreSearched (map updates_in y) x.seats) (sym fences)
+          (subst (AreSearched us) (sym seats) (searched_awake us t.0 p.seats keeps.searched));
     }
+
+-- the waits were looked through further
+pub keeps_searched : {D : Type 0} (state : D → VkState) (plan_of : D → Option DevicePlan) (w : World) (h : List Event) (p : Parts) (d : D) (seats : List Seat) →
+    Keeps state plan_of w h p d → AreSearched (map updates_in p.fences) seats → map place_since seats ≡ map place_since p.seats → Keeps state plan_of w h (record p { seats = seats }) d
+keeps_searched state plan_of w h p d seats keeps searched same = record {
+  consistent = record {
+    world = keeps.consistent.world;
+    run = keeps.consistent.run;
+    past_is = record { lists_are = keeps.consistent.past_is.lists_are; places_are = same ∙ keeps.consistent.past_is.places_are; fences_are = keeps.consistent.past_is.fences_are };
+    held_are = keeps.consistent.held_are;
+    device = keeps.consistent.device;
+  };
+  plan = keeps.plan;
+  numbers = keeps.numbers;
+  searched = searched;
+}

@@ -15,6 +15,7 @@ pub mod Working
 pub mod Bumping
 pub mod Work
 pub mod Opening
+pub mod WaitSearches
 pub mod Keeping
 pub mod Undone
 pub mod Effect
@@ -34,5 +35,6 @@ pub mod Beginning
 pub mod NthStep
 pub mod Finishing
 pub mod StepCount
+pub mod ThreadSteps
 pub mod Stepping
 pub mod Refusing

@@ -17,6 +17,7 @@ use Rattle.d3d_machine.specs.Operations.{operations}
 use Rattle.sys_core.proofs.PastParts.{seats_many}
 use Rattle.vk_types.specs.declared.plan.DevicePlan.{DevicePlan}
 use Rattle.vk_port.specs.Offers.{steps_offered}
+use Rattle.verdicts.specs.declared.rules.Verdict.TheVariants.{Clean}
 use Rattle.vk_port.specs.VkState.{VkState}
 use Rattle.sys_core.specs.declared.parts.Held.{Held}
 use Rattle.sys_core.specs.declared.parts.Parts.{Parts}
@@ -124,7 +125,7 @@ is_device : (w : World) (h : List Event) (v : VkState) (free : ℕ) (x : Step) �
 is_device w h v free x is = subst (CanBeTaken w h v free) (sym is.made) (let e : is.at < steps_offered v free = omega (arith, is.below) in e)
 
 -- a step that can be taken is of a thread that can go on, of a queue with an operation that is not submitted, or one that the device offers
-pub any_step : (w : World) (h : List Event) (v : VkState) (free k : ℕ) (x : Step) → slice_get (enabled_of w h v free) k ≡ Some x → CanBeTaken w h v free x
+pub any_step : (w : World) (h : List Event) (v : VkState) (free k : ℕ) (x : Step) → slice_get (enabled_of w h Clean v free) k ≡ Some x → CanBeTaken w h v free x
 any_step w h v free k x is =
     let P : Step → Type 0 = CanBeTaken w h v free in
     let threads : List Step = steps_where (is_ready_thread w h) (λ t. step.Thread t) 0 (length w.scripts) in
@@ -239,14 +240,14 @@ module _ {D : Type 0} (state : D → VkState) (plan_of : D → Option DevicePlan
   abbrev devices : ℕ → List Step
   devices free = steps_where always (λ k. step.Device k) 0 (numbered (steps_offered (state d) free))
 
-  enabled_is : (free : ℕ) → threads ++ (workers ++ devices free) ≡ enabled_of w h (state d) free
+  enabled_is : (free : ℕ) → threads ++ (workers ++ devices free) ≡ enabled_of w h Clean (state d) free
   enabled_is free =
       ap (λ xs. xs ++ (workers ++ devices free)) (where_same (ready_at w (map updates_in p.fences) p.seats) (is_ready_thread w h) (λ t. step.Thread t) 0 (length w.scripts) (λ t less. seat_same t (omega (arith, less))))
       ∙ ap (λ xs. steps_where (is_ready_thread w h) (λ t. step.Thread t) 0 (length w.scripts) ++ (xs ++ devices free))
       (where_same (holds_at p.held) (is_ready_worker w h (state d)) (λ q. step.Worker q) 0 (length w.queues) (λ q less. held_same q (omega (arith, less))))
 
   -- the count of the steps that can be taken
-  pub count_is : (free a b c : ℕ) → a ≡ length threads → b ≡ length workers → c ≡ numbered (steps_offered (state d) free) → a + (b + c) ≡ length (enabled_of w h (state d) free)
+  pub count_is : (free a b c : ℕ) → a ≡ length threads → b ≡ length workers → c ≡ numbered (steps_offered (state d) free) → a + (b + c) ≡ length (enabled_of w h Clean (state d) free)
   count_is free a b c one two three =
       omega (
         arith,
@@ -273,16 +274,16 @@ module _ {D : Type 0} (state : D → VkState) (plan_of : D → Option DevicePlan
       )
 
   -- the step of a place, by what the searches found
-  pub nth_is_thread : (free k : ℕ) (x : Step) → slice_get threads k ≡ Some x → slice_get (enabled_of w h (state d) free) k ≡ Some x
+  pub nth_is_thread : (free k : ℕ) (x : Step) → slice_get threads k ≡ Some x → slice_get (enabled_of w h Clean (state d) free) k ≡ Some x
   nth_is_thread free k x is = ap (λ xs. slice_get xs k) (sym (enabled_is free)) ∙ get_front threads (workers ++ devices free) k x is
 
-  pub nth_is_worker : (free k left : ℕ) (x : Step) → k ≡ length threads + left → slice_get workers left ≡ Some x → slice_get (enabled_of w h (state d) free) k ≡ Some x
+  pub nth_is_worker : (free k left : ℕ) (x : Step) → k ≡ length threads + left → slice_get workers left ≡ Some x → slice_get (enabled_of w h Clean (state d) free) k ≡ Some x
   nth_is_worker free k left x behind is =
       ap (λ xs. slice_get xs k) (sym (enabled_is free)) ∙ ap (slice_get (threads ++ (workers ++ devices free))) behind
       ∙ get_behind threads (workers ++ devices free) left ∙ get_front workers (devices free) left x is
 
   -- the place among the device's steps
-  pub device_within : (free k left more : ℕ) → k ≡ length threads + left → left ≡ length workers + more → k < length (enabled_of w h (state d) free) → more < numbered (steps_offered (state d) free)
+  pub device_within : (free k left more : ℕ) → k ≡ length threads + left → left ≡ length workers + more → k < length (enabled_of w h Clean (state d) free) → more < numbered (steps_offered (state d) free)
   device_within free k left more behind further within =
       omega (
         arith,
@@ -295,8 +296,8 @@ module _ {D : Type 0} (state : D → VkState) (plan_of : D → Option DevicePlan
         ap length (enabled_is free),
       )
 
-  pub nth_is_device : (free k left more : ℕ) → k ≡ length threads + left → left ≡ length workers + more → k < length (enabled_of w h (state d) free) →
-      slice_get (enabled_of w h (state d) free) k ≡ Some (step.Device more)
+  pub nth_is_device : (free k left more : ℕ) → k ≡ length threads + left → left ≡ length workers + more → k < length (enabled_of w h Clean (state d) free) →
+      slice_get (enabled_of w h Clean (state d) free) k ≡ Some (step.Device more)
   nth_is_device free k left more behind further within =
       ap (λ xs. slice_get xs k) (sym (enabled_is free)) ∙ ap (slice_get (threads ++ (workers ++ devices free))) behind
       ∙ get_behind threads (workers ++ devices free) left ∙ ap (slice_get (workers ++ devices free)) further ∙ get_behind workers (devices free) more

@@ -23,6 +23,7 @@ use Rattle.vk_port.specs.Enabled.{reached, enabled_steps}
 use Rattle.vk_port.specs.Journal.{of_queue}
 use Rattle.vk_port.specs.Offers.{steps_offered}
 use Rattle.vk_port.specs.Valid.{IsLane, IsValid, is_marked, batch_of}
+use Rattle.verdicts.specs.declared.rules.Verdict.TheVariants.{Clean}
 use Rattle.vk_port.specs.VkState.{VkState, lane_of, no_lane, counter_of}
 use Rattle.vk_port.proofs.Lists.{item_at}
 use Rattle.vk_port.proofs.Progress.{lane_goes}
@@ -68,13 +69,13 @@ abbrev devices_of : VkState → ℕ → List Step
 devices_of v free = steps_where always (λ k. step.Device k) 0 (numbered (steps_offered v free))
 
 parts_of : (w : World) (h : List Event) (v : VkState) (free : ℕ) →
-    length (enabled_of w h v free) ≡ length (threads_of w h) + (length (workers_of w h v) + length (devices_of v free))
+    length (enabled_of w h Clean v free) ≡ length (threads_of w h) + (length (workers_of w h v) + length (devices_of v free))
 parts_of w h v free =
     length-append (threads_of w h) (workers_of w h v ++ devices_of v free)
     ∙ ap (λ n. length (threads_of w h) + n) (length-append (workers_of w h v) (devices_of v free))
 
 -- a thread that is ready has an enabled step
-pub thread_goes : (w : World) (h : List Event) (v : VkState) (free t : ℕ) → t < length w.scripts → is_ready_thread w h t ≡ true → 0 < length (enabled_of w h v free)
+pub thread_goes : (w : World) (h : List Event) (v : VkState) (free t : ℕ) → t < length w.scripts → is_ready_thread w h t ≡ true → 0 < length (enabled_of w h Clean v free)
 thread_goes w h v free t within ready =
     let some : 0 < length (threads_of w h) =
     where_some (is_ready_thread w h) (λ t. step.Thread t) 0 (length w.scripts) t (omega arith) (omega (arith, within)) ready in
@@ -82,7 +83,7 @@ thread_goes w h v free t within ready =
 
 -- a queue with an operation that is not submitted has an enabled step of its worker
 pub worker_goes : (w : World) (h : List Event) (v : VkState) (free q : ℕ) → q < length w.queues → submitted_of v q < length (operations w h q) →
-    0 < length (enabled_of w h v free)
+    0 < length (enabled_of w h Clean v free)
 worker_goes w h v free q within less =
     let some : 0 < length (workers_of w h v) =
     where_some (is_ready_worker w h v) (λ q. step.Worker q) 0 (length w.queues) q (omega arith) (omega (arith, within))
@@ -90,7 +91,7 @@ worker_goes w h v free q within less =
     omega (arith, some, parts_of w h v free)
 
 -- a device with a step has an enabled one
-pub device_goes : (w : World) (h : List Event) (v : VkState) (free : ℕ) → 0 < length (enabled_steps v) → 0 < length (enabled_of w h v free)
+pub device_goes : (w : World) (h : List Event) (v : VkState) (free : ℕ) → 0 < length (enabled_steps v) → 0 < length (enabled_of w h Clean v free)
 device_goes w h v free less =
     let some : 0 < length (devices_of v free) =
     where_some always (λ k. step.Device k) 0 (numbered (steps_offered v free)) 0 (omega arith) (omega (arith, less)) refl in
@@ -165,7 +166,7 @@ submitted_go w h v most device within less all =
     (λ _. head_reached w h v first.0 most device within (head_is v first.0 device.valid first.1))
 
 first_goes : (w : World) (h : List Event) (v : VkState) (free : ℕ) → HasOneQueueAtMost w → IsRunButWords w h → IsDevice w h v → 0 < length w.queues → 0 < length (called_of (state_after w h).desk 0) →
-    0 < length (enabled_of w h v free)
+    0 < length (enabled_of w h Clean v free)
 first_goes w h v free most run device within some =
     let less : counter h 0 < length (operations w h 0) =
     omega (arith, some, ap length (called_now w h run within), length-drop (counter h 0) (operations w h 0)) in
@@ -176,12 +177,12 @@ first_goes w h v free most run device within some =
 
 -- while an operation is called and incomplete, a step is enabled
 pub queue_goes : (w : World) (h : List Event) (v : VkState) (free q : ℕ) → HasOneQueueAtMost w → IsRunButWords w h → IsDevice w h v → q < length w.queues →
-    0 < length (called_of (state_after w h).desk q) → 0 < length (enabled_of w h v free)
+    0 < length (called_of (state_after w h).desk q) → 0 < length (enabled_of w h Clean v free)
 queue_goes w h v free q most run device within some =
-    at_first (λ p. 0 < length (called_of (state_after w h).desk p) → 0 < length (enabled_of w h v free)) q (length w.queues) within
+    at_first (λ p. 0 < length (called_of (state_after w h).desk p) → 0 < length (enabled_of w h Clean v free)) q (length w.queues) within
     (omega (arith, within, most.few_queues)) (first_goes w h v free most run device (omega (arith, within))) some
 
 -- where the Direct3D machine can go on, the system has a step
-pub machine_goes : (w : World) (h : List Event) (v : VkState) (free : ℕ) → HasOneQueueAtMost w → IsRunButWords w h → IsDevice w h v → CanGoOn w h → 0 < length (enabled_of w h v free)
+pub machine_goes : (w : World) (h : List Event) (v : VkState) (free : ℕ) → HasOneQueueAtMost w → IsRunButWords w h → IsDevice w h v → CanGoOn w h → 0 < length (enabled_of w h Clean v free)
 machine_goes w h v free most run device (inl ready) = thread_goes w h v free ready.0 ready.1 ready.2
 machine_goes w h v free most run device (inr called) = queue_goes w h v free called.0 most run device called.1 called.2

@@ -27,6 +27,9 @@ use Rattle.vk_port.proofs.Lists.{item_at}
 use Rattle.sys_core.specs.declared.parts.Parts.{Parts}
 use Rattle.sys_core.specs.declared.faults.SysFault.{SysFault}
 use Rattle.sys_core.specs.Goes.{IsStep, WasTaken, tally}
+use Rattle.sys_core.specs.ThreadSteps.{IsThreadStep}
+use Rattle.sys_core.proofs.ThreadSteps.{thread_step_is}
+use Rattle.sys_core.proofs.Buffers.{has_buffers}
 use Rattle.sys_core.specs.Lowering.{lowered}
 use Rattle.sys_core.specs.Parts.{updates_in, reply_by, device_by}
 use Rattle.sys_core.specs.Steps.{is_ready_thread, is_ready_worker, thread_event, place_event, call_event, seen_state, after_event, submitted_of, submitted_batches, next_batch, after_submits, step_events, IsDeviceStep}
@@ -192,12 +195,13 @@ module _ {D : Type 0} (state : D → VkState) (plan_of : D → Option DevicePlan
   none_used s (Err x) a b same none = tt
 
   pub is_thread_step : (t : ℕ) (k : List Event) (e : D) (res : Result ⊤ SysFault) → OnOk res (k ≡ h ++ thread_event w h (state d) t ∷ []) →
-      OnOk res (state e ≡ after_event w h (state d) (thread_event w h (state d) t)) →
+      OnOk res (state e ≡ after_event w h (state d) (thread_event w h (state d) t)) → IsRunButWords w k →
       OnOk res (IsStep w (record { history = h; device = state d }) (step.Thread t) (record { history = k; device = state e }))
-  is_thread_step t k e (Ok x) event device =
-      ap (λ (l : List Event). record { history = l; device = state e }) event
-      ∙ ap (λ (v : VkState). record { history = h ++ thread_event w h (state d) t ∷ []; device = v }) device
-  is_thread_step t k e (Err x) event device = tt
+  is_thread_step t k e (Ok x) event device run =
+      subst (λ v. IsThreadStep w h k (state d) v t) (sym device)
+      (subst (λ l. IsThreadStep w h l (state d) (after_event w h (state d) (thread_event w h (state d) t)) t) (sym event)
+      (thread_step_is w h (state d) (has_buffers w (state d) keeps.consistent.world keeps.consistent.device.objects) t (subst (IsRunButWords w) event run)))
+  is_thread_step t k e (Err x) event device run = tt
 
   pub is_worker_step : (q : ℕ) (e : D) (res : Result ⊤ SysFault) → OnOk res (state e ≡ after_submits (state d) (submitted_batches w h (state d) q)) →
       OnOk res (IsStep w (record { history = h; device = state d }) (step.Worker q) (record { history = h; device = state e }))

@@ -104,7 +104,7 @@ quiet_when w h most run all = record {
 }
 
 -- the last event of a play could come
-plays_last : (Same : Reply → Reply → Type 0) (w : World) (s : State) (h : List Event) (e : Event) → Plays Same w s (h ++ e ∷ []) → May Same w (after_all w s h) e
+pub plays_last : (Same : Reply → Reply → Type 0) (w : World) (s : State) (h : List Event) (e : Event) → Plays Same w s (h ++ e ∷ []) → May Same w (after_all w s h) e
 plays_last Same w s [] e plays = plays.0
 plays_last Same w s (d ∷ h) e plays = plays_last Same w (after w s d) h e plays.1
 

@@ -124,4 +124,5 @@ module _ {D : Type 0} (state : D → VkState) (plan_of : D → Option DevicePlan
             (consistent_submit w h p.lists p.seats (map updates_in p.fences) (map queued p.held) (state d) q (queued y) o keeps.consistent at_queued next.head));
         plan = plan ∙ keeps.plan;
         numbers = keeps.numbers;
+        searched = keeps.searched;
       }

@@ -11,9 +11,11 @@ use Rattle.d3d_machine.specs.declared.events.Event.{Event}
 use Rattle.d3d_machine.specs.declared.events.Event.TheVariants as event
 use Rattle.d3d_machine.specs.Laws.{HasNoEffect}
 use Rattle.d3d_machine.specs.Play.{IsFinished, state_after}
+use Rattle.verdicts.specs.declared.rules.Verdict.TheVariants.{Clean}
 use Rattle.vk_port.specs.VkState.{VkState}
 use Rattle.sys_core.specs.Keeps.{SysView}
-use Rattle.sys_core.specs.Steps.{enabled_of, thread_event, after_event, submitted_batches, after_submits, IsDeviceStep}
+use Rattle.sys_core.specs.Steps.{enabled_of, submitted_batches, after_submits, IsDeviceStep}
+use Rattle.sys_core.specs.ThreadSteps.{IsThreadStep}
 use Rattle.vk_port.specs.Left.{steps_left}
 use Rattle.sys_core.specs.StepCount.{rest_used, count_calls, count_wakings, batches_steps}
 use Rattle.sys_core.specs.Work.{work}
@@ -30,20 +32,19 @@ state_of state s = record { history = s.history; device = state s.device }
 
 -- a step leads from one state to another
 abbrev pub IsStep : World → SysState → Step → SysState → Type 0
-IsStep w s (step.Thread t) u =
-    u ≡ record { history = s.history ++ thread_event w s.history s.device t ∷ []; device = after_event w s.history s.device (thread_event w s.history s.device t) }
+IsStep w s (step.Thread t) u = IsThreadStep w s.history u.history s.device u.device t
 IsStep w s (step.Worker q) u = u ≡ record { history = s.history; device = after_submits s.device (submitted_batches w s.history s.device q) }
 IsStep w s (step.Device k) u = IsDeviceStep s.history u.history s.device u.device k
 
 -- one choice: the system has not finished, and the step is the one that can be taken whose place is the choice modulo their
--- number; `free` is how many free steps the device offers, which are none where it has none left to take
+-- number, by the verdict so far, which is Clean for now; `free` is how many free steps the device offers, which are none where it has none left to take
 pub record Chooses (w : World) (rest c : ℕ) (s u : SysState) : Type 0 where
   pub running : IsFinished w (state_after w s.history).desk → ⊥
   pub free : ℕ
   pub none_free : rest ≡ 0 → free ≡ 0
   pub step : Step
-  pub some : 0 < length (enabled_of w s.history s.device free)
-  pub chosen : slice_get (enabled_of w s.history s.device free) (c % length (enabled_of w s.history s.device free)) ≡ Some step
+  pub some : 0 < length (enabled_of w s.history Clean s.device free)
+  pub chosen : slice_get (enabled_of w s.history Clean s.device free) (c % length (enabled_of w s.history Clean s.device free)) ≡ Some step
   pub goes : IsStep w s step u
 
 -- choices lead from one state to another by these steps, on a device that has so many free steps left to take before them,

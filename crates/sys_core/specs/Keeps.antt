@@ -6,6 +6,7 @@ use Rattle.d3d_machine.specs.declared.events.Event.{Event}
 use Rattle.d3d_machine.specs.World.{IsWorld, HasOneQueueAtMost}
 use Rattle.d3d_machine.specs.Play.{IsRunButWords}
 use Rattle.vk_types.specs.declared.plan.DevicePlan.{DevicePlan}
+use Rattle.verdicts.specs.declared.rules.Verdict.TheVariants.{Clean}
 use Rattle.vk_port.specs.VkState.{VkState}
 use Rattle.sys_core.specs.declared.parts.Seat.{Seat}
 use Rattle.sys_core.specs.declared.parts.Parts.{Parts}
@@ -14,6 +15,7 @@ use Rattle.sys_core.specs.Parts.{queued, updates_in, is_met_by}
 use Rattle.sys_core.specs.Consistent.{IsDevice, IsConsistent}
 use Rattle.sys_core.specs.Ahead.{IsWhole}
 use Rattle.sys_core.specs.Steps.{enabled_of}
+use Rattle.sys_core.specs.WaitSearches.{AreSearched}
 
 -- what is seen of the system: its world, its history, and its device
 pub record SysView (D : Type 0) : Type 0 where
@@ -21,11 +23,13 @@ pub record SysView (D : Type 0) : Type 0 where
   pub history : List Event
   pub device : D
 
--- the parts and the device are those after the history, the device has the world's objects, and the parts their numbers
+-- the parts and the device are those after the history, the device has the world's objects, and the parts their numbers; and
+-- what was found of each wait still tells whether it is met
 pub record Keeps {D : Type 0} (state : D → VkState) (plan_of : D → Option DevicePlan) (w : World) (h : List Event) (p : Parts) (d : D) : Type 0 where
   pub consistent : IsConsistent w h p.lists p.seats (map updates_in p.fences) (map queued p.held) (state d)
   pub plan : plan_of d ≡ Some (plan_of_world w)
   pub numbers : AreNumbers w.resources p.numbers
+  pub searched : AreSearched (map updates_in p.fences) p.seats
 
 -- the world is valid and has one queue at most, the history is a run of it but for words, and the device stands
 pub record IsSystem (w : World) (h : List Event) (v : VkState) : Type 0 where
@@ -45,5 +49,5 @@ pub record IsSys {D : Type 0} (state : D → VkState) (plan_of : D → Option De
   pub keeps : Keeps state plan_of w h p d
   pub queues : HasOneQueueAtMost w
   pub whole : IsWhole w h (state d)
-  pub counted : enabled ≡ length (enabled_of w h (state d) (offered d))
+  pub counted : enabled ≡ length (enabled_of w h Clean (state d) (offered d))
   pub none_at_rest : rest_of d ≡ 0 → offered d ≡ 0

@@ -5,6 +5,7 @@ use Rattle.d3d_machine.specs.declared.events.Event.{Event}
 use Rattle.d3d_machine.specs.World.{HasOneQueueAtMost}
 use Rattle.d3d_machine.specs.State.{called_of}
 use Rattle.d3d_machine.specs.Play.{IsRunButWords, state_after}
+use Rattle.verdicts.specs.declared.rules.Verdict.TheVariants.{Clean}
 use Rattle.vk_port.specs.VkState.{VkState}
 use Rattle.sys_core.specs.Consistent.{IsDevice}
 use Rattle.sys_core.specs.Steps.{enabled_of, is_ready_thread}
@@ -17,4 +18,4 @@ CanGoOn w h =
 
 -- in a world with one queue at most, where the Direct3D machine can go on, the system has a step
 abbrev pub StepsGoOn : Type 0
-StepsGoOn = (w : World) → (h : List Event) → (v : VkState) → (free : ℕ) → HasOneQueueAtMost w → IsRunButWords w h → IsDevice w h v → CanGoOn w h → 0 < length (enabled_of w h v free)
+StepsGoOn = (w : World) → (h : List Event) → (v : VkState) → (free : ℕ) → HasOneQueueAtMost w → IsRunButWords w h → IsDevice w h v → CanGoOn w h → 0 < length (enabled_of w h Clean v free)

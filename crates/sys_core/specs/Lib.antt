@@ -8,11 +8,13 @@ pub mod Consistent
 pub mod FaultOf
 pub mod Serving
 pub mod Work
+pub mod WaitSearches
 pub mod Keeps
 pub mod InOrder
 pub mod Ahead
 pub mod Nth
 pub mod StepCount
+pub mod ThreadSteps
 pub mod Goes
 pub mod Over
 pub mod Opened

@@ -84,7 +84,7 @@ fences_by w lists c fences = changed_by with_one (done w lists c).sets fences
 
 abbrev pub armed_or : List (List ℕ) → Option (At ℕ) → Option Armed → Option Armed
 armed_or fences None o = o
-armed_or fences (Some x) o = Some (record { fence = record { 0 = x.place }; value = x.what; since = length (updates_at fences x.place) - 1 })
+armed_or fences (Some x) o = Some (record { fence = record { 0 = x.place }; value = x.what; since = length (updates_at fences x.place) - 1; seen = length (updates_at fences x.place) - 1 })
 
 -- the wait of a thread after a call
 abbrev pub armed_after : List (List ℕ) → Call → Option Armed → Option Armed

@@ -2,6 +2,8 @@
 use Rattle.std.specs.Prelude.{ℕ, zero, suc, ◌≡◌, ◌≤◌, ◌<◌, ◌+◌, ◌-◌, ◌^◌, ◌==◌, min, nat_lt, List, [], ◌∷◌, ◌++◌, length, slice_get, Option, Some, None, Bool, true, if◌then◌else◌}
 use Rattle.dx_base.specs.declared.steps.Step.{Step}
 use Rattle.dx_base.specs.declared.steps.Step.TheVariants as step
+use Rattle.verdicts.specs.declared.rules.Verdict.{Verdict}
+use Rattle.verdicts.specs.declared.rules.Verdict.TheVariants.{Clean, Broken}
 use Rattle.d3d_machine.specs.declared.world.World.{World}
 use Rattle.d3d_machine.specs.declared.calls.Call.{Call}
 use Rattle.d3d_machine.specs.declared.events.Event.{Event}
@@ -50,12 +52,18 @@ always n = true
 abbrev pub numbered : ℕ → ℕ
 numbered n = min n (2 ^ 32)
 
--- all enabled steps in order: threads, workers, then the device's steps
-abbrev pub enabled_of : World → List Event → VkState → ℕ → List Step
-enabled_of w h v free =
-    steps_where (is_ready_thread w h) (λ t. step.Thread t) 0 (length w.scripts)
+-- behind a broken verdict nothing is enabled
+abbrev pub unless_broken : Verdict → List Step → List Step
+unless_broken Clean steps = steps
+unless_broken (Broken r n) steps = []
+
+-- all enabled steps in order, by the verdict so far: threads, workers, then the device's steps
+abbrev pub enabled_of : World → List Event → Verdict → VkState → ℕ → List Step
+enabled_of w h x v free =
+    unless_broken x
+    (steps_where (is_ready_thread w h) (λ t. step.Thread t) 0 (length w.scripts)
     ++ (steps_where (is_ready_worker w h v) (λ q. step.Worker q) 0 (length w.queues)
-    ++ steps_where always (λ k. step.Device k) 0 (numbered (steps_offered v free)))
+    ++ steps_where always (λ k. step.Device k) 0 (numbered (steps_offered v free))))
 
 -- a step can be taken: its thread can go on, its queue has an operation that is not submitted, or the device offers it
 abbrev pub CanBeTaken : World → List Event → VkState → ℕ → Step → Type 0

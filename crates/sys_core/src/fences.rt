@@ -3,7 +3,7 @@
 ghost use Rattle.std.specs.Prelude.{◌≡◌, ◌-◌, ◌++◌, ◌∷◌, [], map, length, IfOk, OnOk};
 ghost use Rattle.dx_base.specs.Lists.{changed_at};
 ghost use Rattle.d3d_machine.specs.Fences.{is_met};
-ghost use Rattle.sys_core.specs.Parts.{updates_in, is_met_by as met_by, HasRoomAt, KeepsRoom};
+ghost use Rattle.sys_core.specs.Parts.{updates_in, HasRoomAt, KeepsRoom};
 ghost use Rattle.d3d_machine.specs.Past.{updates_at, last_of};
 
 use crate::parts::Armed;
@@ -101,14 +101,14 @@ pub(crate) fn last_place(fences: &Seq<Room<u64>>, fence: FenceId) -> usize
     }
 }
 
-/// Whether a wait is met: the update that was current at its call, or a later one, is at least its value.
+/// Whether an update of a wait's fence that is still to be looked at is at least its value.
 #[tactic(auto, using(crate::proofs::Updates::updates_of_none, crate::proofs::Updates::updates_of_some))]
 pub(crate) fn is_met_by(fences: &Seq<Room<u64>>, armed: Armed) -> bool
-    ensures { result ≡ met_by (map updates_in fences.now) armed }
+    ensures { result ≡ is_met (updates_at (map updates_in fences.now) armed.fence.0) armed.seen armed.value }
 {
     match fences.get(armed.fence.0 as usize) {
-        Some(updates) => suffices_from(updates.as_slice(), armed.since, armed.value),
-        None => suffices_from(&[], armed.since, armed.value),
+        Some(updates) => suffices_from(updates.as_slice(), armed.seen, armed.value),
+        None => suffices_from(&[], armed.seen, armed.value),
     }
 }
 

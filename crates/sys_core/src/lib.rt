@@ -15,6 +15,7 @@ mod sys;
 #[cfg(test)]
 mod tests;
 mod threads;
+mod waits;
 mod worker;
 
 pub use faults::SysFault;

@@ -4,8 +4,10 @@ ghost use Rattle.std.specs.Prelude.{◌≡◌, ◌<◌, ◌≤◌, map, length, 
 ghost use Rattle.dx_base.specs.declared.steps.Step.TheVariants as step;
 ghost use Rattle.sys_core.specs.Parts.{updates_in};
 ghost use Rattle.sys_core.specs.Nth.{ready_at, holds_at, IsNth};
+ghost use Rattle.verdicts.specs.declared.rules.Verdict.TheVariants.{Clean};
 ghost use Rattle.sys_core.specs.Steps.{steps_where, enabled_of, numbered};
 ghost use Rattle.sys_core.specs.Keeps.{Keeps};
+ghost use Rattle.sys_core.specs.WaitSearches.{AreSearched};
 ghost use Rattle.vk_port.specs.Offers.{steps_offered};
 
 use crate::parts::Parts;
@@ -21,6 +23,7 @@ const NUMBERED: usize = 1 << 32;
 fn ready_threads(world: &World, parts: &Parts) -> usize
     requires seats { length parts.now.seats ≡ length world.now.scripts }
     requires few { length world.now.scripts ≤ 16 }
+    requires searched { AreSearched (map updates_in parts.now.fences) parts.now.seats }
     ensures { result ≡ length (steps_where (ready_at world.now (map updates_in parts.now.fences) parts.now.seats) step.Thread 0 (length world.now.scripts)) }
 {
     let mut count = 0;
@@ -64,7 +67,7 @@ pub(crate) fn count_steps<D: VkDevice>(
     device: &D,
 ) -> usize
     requires keeps { Keeps D.state D.plan_of world.now history.now.items parts.now device.now }
-    ensures count { result ≡ length (enabled_of world.now history.now.items (D.state device.now) (D.offered device.now)) }
+    ensures count { result ≡ length (enabled_of world.now history.now.items Clean (D.state device.now) (D.offered device.now)) }
     ensures none_at_rest { D.rest_of device.now ≡ 0 → D.offered device.now ≡ 0 }
 {
     let _events = history.len();
@@ -76,6 +79,7 @@ pub(crate) fn count_steps<D: VkDevice>(
 fn nth_thread(world: &World, parts: &Parts, k: usize) -> Result<Step, usize>
     requires seats { length parts.now.seats ≡ length world.now.scripts }
     requires few { length world.now.scripts ≤ 16 }
+    requires searched { AreSearched (map updates_in parts.now.fences) parts.now.seats }
     ensures { IsNth (steps_where (ready_at world.now (map updates_in parts.now.fences) parts.now.seats) step.Thread 0 (length world.now.scripts)) k result }
 {
     let mut left = k;
@@ -118,8 +122,8 @@ pub(crate) fn nth_step<D: VkDevice>(
     k: usize,
 ) -> Step
     requires keeps { Keeps D.state D.plan_of world.now history.now.items parts.now device.now }
-    requires within { k < length (enabled_of world.now history.now.items (D.state device.now) (D.offered device.now)) }
-    ensures { slice_get (enabled_of world.now history.now.items (D.state device.now) (D.offered device.now)) k ≡ Some result }
+    requires within { k < length (enabled_of world.now history.now.items Clean (D.state device.now) (D.offered device.now)) }
+    ensures { slice_get (enabled_of world.now history.now.items Clean (D.state device.now) (D.offered device.now)) k ≡ Some result }
 {
     let _events = history.len();
     let _device = device;

@@ -13,12 +13,14 @@ use d3d_machine::{Call, Lists, Operation, World};
 use dx_base::{FenceId, Fifo, ListType, Memory, QueueId, Room, Seq};
 use std::alloc::Global;
 
-/// A wait of a thread, with the place, among the fence's updates, of the one that was current at its call.
+/// A wait of a thread, with the place, among the fence's updates, of the one that was current at its call, and the place
+/// from which on they are still to be looked at: whether one of these suffices says whether the wait is met.
 #[derive(Clone, Copy, Debug, PartialEq, Eq)]
 pub struct Armed {
     pub fence: FenceId,
     pub value: u64,
     pub since: usize,
+    pub seen: usize,
 }
 
 /// A thread's place: how many of its calls are answered, and the wait from which it has not woken.
@@ -149,6 +151,7 @@ pub(crate) fn armed_by(fences: &Seq<Room<u64>>, call: &Call, waits: Option<Armed
             fence: *fence,
             value: *value,
             since: last_place(fences, *fence),
+            seen: last_place(fences, *fence),
         }),
         Call::Recording { .. } => waits,
         Call::Close { .. } => waits,

@@ -11,6 +11,7 @@ ghost use Rattle.sys_core.specs.Opened.{opened, IsUnopened};
 ghost use Rattle.sys_core.specs.Over.{IsOver};
 ghost use Rattle.sys_core.specs.Serving.{HasCause, HasFaultCause};
 ghost use Rattle.sys_core.specs.Lowering.{plan_of_world, opening_batches, startup};
+ghost use Rattle.verdicts.specs.declared.rules.Verdict.TheVariants.{Clean};
 ghost use Rattle.sys_core.specs.Steps.{after_submits, enabled_of, is_ready_thread, is_ready_worker};
 ghost use Rattle.vk_port.specs.Offers.{steps_offered};
 ghost use Rattle.vk_port.specs.VkState.{first_state};
@@ -22,6 +23,7 @@ use crate::lowering::{plan_of, startup_batch};
 use crate::nth::{count_steps, nth_step};
 use crate::over::Over;
 use crate::parts::Parts;
+use crate::waits::search_waits;
 use crate::{device_steps, threads, worker};
 use d3d_machine::{Event, World};
 use dx_base::{Memory, QueueId, Room, Seq, Step, ThreadId};
@@ -93,6 +95,18 @@ fn begin<D: VkDevice>(alloc: Global, world: &World, device: &mut D) -> Result<Pa
     Ok(parts)
 }
 
+/// Looks at what came for the waits of threads, and counts the steps that can be taken.
+#[tactic(auto, using(crate::proofs::Keeping::keeps_searched))]
+fn settle<D: VkDevice>(world: &World, history: &Room<Event>, parts: &mut Parts, device: &D) -> usize
+    requires { Keeps D.state D.plan_of world.now history.now.items parts.old device.now }
+    ensures count { result ≡ length (enabled_of world.now history.now.items Clean (D.state device.now) (D.offered device.now)) }
+    ensures none_at_rest { D.rest_of device.now ≡ 0 → D.offered device.now ≡ 0 }
+    ensures keeps { Keeps D.state D.plan_of world.now history.now.items parts.new device.now }
+{
+    search_waits(&mut parts.seats, &parts.fences);
+    count_steps(world, history, parts, device)
+}
+
 impl<D: VkDevice> Sys<D> {
     /// The system of a world before any call. The device is new; it gets the world's objects and the start-up batch.
     /// Refused, it is given back without a batch, and with no plan, or with the world's objects as they are at first.
@@ -134,7 +148,7 @@ impl<D: VkDevice> Sys<D> {
 
     /// How many steps can be taken. A device that has no free step left to take offers none.
     pub fn enabled(&self) -> usize
-        ensures count { result ≡ length (enabled_of self.now.world self.now.history (D.state self.now.device) (D.offered self.now.device)) }
+        ensures count { result ≡ length (enabled_of self.now.world self.now.history Clean (D.state self.now.device) (D.offered self.now.device)) }
         ensures none_at_rest { D.rest_of self.now.device ≡ 0 → D.offered self.now.device ≡ 0 }
     {
         self.enabled
@@ -143,8 +157,8 @@ impl<D: VkDevice> Sys<D> {
     /// The step of a place among those that can be taken, counted from 0: threads come first, then workers, then the
     /// device's steps, each by number.
     pub fn kth(&self, k: usize) -> Step
-        requires { k < length (enabled_of self.now.world self.now.history (D.state self.now.device) (D.offered self.now.device)) }
-        ensures { slice_get (enabled_of self.now.world self.now.history (D.state self.now.device) (D.offered self.now.device)) k ≡ Some result }
+        requires { k < length (enabled_of self.now.world self.now.history Clean (D.state self.now.device) (D.offered self.now.device)) }
+        ensures { slice_get (enabled_of self.now.world self.now.history Clean (D.state self.now.device) (D.offered self.now.device)) k ≡ Some result }
     {
         nth_step(&self.world, &self.history, &self.parts, &self.device, k)
     }
@@ -169,7 +183,7 @@ impl<D: VkDevice> Sys<D> {
             &mut self.device,
             thread,
         );
-        self.enabled = count_steps(&self.world, &self.history, &self.parts, &self.device);
+        self.enabled = settle(&self.world, &self.history, &mut self.parts, &self.device);
         taken
     }
 
@@ -192,7 +206,7 @@ impl<D: VkDevice> Sys<D> {
             &mut self.device,
             queue,
         );
-        self.enabled = count_steps(&self.world, &self.history, &self.parts, &self.device);
+        self.enabled = settle(&self.world, &self.history, &mut self.parts, &self.device);
         taken
     }
 
@@ -213,13 +227,13 @@ impl<D: VkDevice> Sys<D> {
             &mut self.device,
             k,
         );
-        self.enabled = count_steps(&self.world, &self.history, &self.parts, &self.device);
+        self.enabled = settle(&self.world, &self.history, &mut self.parts, &self.device);
         taken
     }
 
     /// How far the system has come.
     pub fn over(&self) -> Over
-        ensures over { IsOver self.now.world self.now.history (D.state self.now.device) (D.offered self.now.device) result }
+        ensures over { IsOver self.now.world self.now.history Clean (D.state self.now.device) (D.offered self.now.device) result }
         ensures system { IsSystem self.now.world self.now.history (D.state self.now.device) }
     {
         if is_finished(&self.world, &self.history, &self.parts, &self.device) {

@@ -30,6 +30,7 @@ fn wait_for(value: u64, since: usize) -> Armed {
         fence: FenceId(0),
         value,
         since,
+        seen: since,
     }
 }
 

@@ -9,6 +9,7 @@ ghost use Rattle.sys_core.specs.Parts.{updates_in, seat_after, woken_seat};
 ghost use Rattle.sys_core.specs.Steps.{is_ready_thread, thread_event, after_event};
 ghost use Rattle.sys_core.specs.Serving.{HasCause};
 ghost use Rattle.sys_core.specs.Keeps.{Keeps, ready_by};
+ghost use Rattle.sys_core.specs.WaitSearches.{AreSearched};
 
 use crate::faults::SysFault;
 use crate::fences::is_met_by;
@@ -20,9 +21,11 @@ use std::alloc::Global;
 use vk_port::VkDevice;
 
 /// Whether a thread can go on: it has a call left and does not wait, or its wait is met.
+#[tactic(auto, using(crate::proofs::WaitSearches::met_where_sought))]
 pub(crate) fn is_ready(world: &World, parts: &Parts, thread: usize) -> bool
     requires seats { thread < length parts.now.seats }
     requires scripts { thread < length world.now.scripts }
+    requires searched { AreSearched (map updates_in parts.now.fences) parts.now.seats }
     ensures { (seat : Seat) → slice_get parts.now.seats thread ≡ Some seat → result ≡ ready_by (script_of world.now thread) (map updates_in parts.now.fences) seat }
 {
     let seat = *parts.seats.at(thread);

@@ -6,10 +6,10 @@ use Rattle.dx_base.specs.Faults.{HasRisen}
 use Rattle.d3d_machine.specs.declared.world.World.{World}
 use Rattle.d3d_machine.specs.Play.{state_after}
 use Rattle.line_forms.specs.declared.cause.Cause.{Cause}
-use Rattle.trace_text.specs.declared.status.Status.{Status}
-use Rattle.trace_text.specs.declared.status.Status.TheVariants as status
-use Rattle.trace_text.specs.declared.outcome.Outcome.{Outcome}
-use Rattle.trace_text.specs.Output.{output_of}
+use Rattle.run_text.specs.declared.status.Status.{Status}
+use Rattle.run_text.specs.declared.status.Status.TheVariants as status
+use Rattle.run_text.specs.declared.outcome.Outcome.{Outcome}
+use Rattle.run_text.specs.Output.{output_of}
 use Rattle.trace_text.specs.Values.{Value, value_of}
 use Rattle.trace_text.specs.WorldOf.{world_of_value}
 use Rattle.sys_core.specs.declared.faults.SysFault.{SysFault}
@@ -19,6 +19,8 @@ use Rattle.sys_core.specs.declared.over.Over.TheVariants as over
 use Rattle.sys_core.specs.Ahead.{IsWhole}
 use Rattle.sys_core.specs.Keeps.{IsSystem}
 use Rattle.sys_core.specs.Over.{IsOver}
+use Rattle.sys_core.specs.Steps.{enabled_of}
+use Rattle.verdicts.specs.declared.rules.Verdict.TheVariants.{Clean}
 use Rattle.sys_core.specs.Serving.{HasCause, HasFaultCause}
 use Rattle.sys_core.proofs.Progress.{machine_goes}
 use Rattle.trace_text.proofs.TakenBytes.{first_bytes}
@@ -31,8 +33,9 @@ use Rattle.sys_core.specs.Laws.{CanGoOn}
 use Rattle.trace_runner.proofs.OfRounds.{rounds_are_calm, rounds_go_on}
 
 -- a run that took steps
-underway : (w : World) (l : Left) → Went w l.rest.0 l.rest.1 l.choices l.taken l.history l.device → IsSystem w l.history l.device → IsWhole w l.history l.device → IsUnderway w l
-underway w l went system whole = record {
+underway : (w : World) (l : Left) → l.verdict ≡ Clean → Went w l.rest.0 l.rest.1 l.choices l.taken l.history l.device → IsSystem w l.history l.device → IsWhole w l.history l.device → IsUnderway w l
+underway w l clean went system whole = record {
+  clean = clean;
   went = went;
   run = system.run;
   scripts = runs_follow_scripts w l.history system.run;
@@ -44,15 +47,15 @@ underway w l went system whole = record {
 through : (w : World) (l : Left) (values : List ℕ) → IsUnderway w l → length l.choices ≡ length l.taken → l.fences ≡ values → values ≡ (state_after w l.history).desk.fences → IsThrough w l
 through w l values under equal is are = record { underway = under; equal = equal; values = is ∙ are }
 
-ran_over : (w : World) (l : Left) (o : Over) (s : Status) → IsSystem w l.history l.device → IsThrough w l → IsOver w l.history l.device l.offered o → (o ≡ over.Done) ⊎ (o ≡ over.Stalled) →
+ran_over : (w : World) (l : Left) (o : Over) (s : Status) → IsSystem w l.history l.device → IsThrough w l → IsOver w l.history l.verdict l.device l.offered o → (o ≡ over.Done) ⊎ (o ≡ over.Stalled) →
     s ≡ status_at o → Ran w l s
 ran_over w l over.Running s system is far last at = elim last [
   | inl e ↦ absurd (cc)
   | inr e ↦ absurd (cc)
 ]
-ran_over w l over.Done s system is far last at = subst (Ran w l) (sym at) (record { through = is; finished = far })
+ran_over w l over.Done s system is far last at = subst (Ran w l) (sym at) (record { through = is; finished = far.0 })
 ran_over w l over.Stalled s system is far last at =
-    let stuck : CanGoOn w l.history → ⊥ = λ can. omega (arith, far.1, machine_goes w l.history l.device l.offered system.queues system.run system.device can) in
+    let stuck : CanGoOn w l.history → ⊥ = λ can. omega (arith, subst (λ x. length (enabled_of w l.history x l.device l.offered) ≡ 0) is.underway.clean far.1, machine_goes w l.history l.device l.offered system.queues system.run system.device can) in
     subst (Ran w l) (sym at)
     (record {
       through = is;
@@ -61,7 +64,10 @@ ran_over w l over.Stalled s system is far last at =
       stuck = stuck;
       no_rounds = λ of. elim (rounds_go_on w l.history of system.run) [ inl done ↦ far.0 done | inr can ↦ stuck can ];
     })
-ran_over w l over.Broken s system is far last at = absurd far
+ran_over w l over.Broken s system is far last at = elim last [
+  | inl e ↦ absurd (cc)
+  | inr e ↦ absurd (cc)
+]
 ran_over w l over.Torn s system is far last at = absurd far
 
 ran_fault : (w : World) (l : Left) (e : SysFault) (s : Status) → IsUnderway w l → HasFaultCause e l.faults.0 l.faults.1 → s ≡ ended_by e → Ran w l s
@@ -69,13 +75,13 @@ ran_fault w l fault.Memory s under cause at = subst (Ran w l) (sym at) (inr unde
 ran_fault w l fault.Lost s under cause at = subst (Ran w l) (sym at) (cause, inr under)
 
 -- the run is finished or stalled where no step is left, and else cut short
-pub ran_end : (w : World) (l : Left) (s : Status) (end : Result Over SysFault) → Went w l.rest.0 l.rest.1 l.choices l.taken l.history l.device → IsSystem w l.history l.device → IsWhole w l.history l.device →
-    IfOk end (λ o. IsOver w l.history l.device l.offered o) → IfOk end (λ o. (o ≡ over.Done) ⊎ (o ≡ over.Stalled)) → OnOk end (length l.choices ≡ length l.taken) →
+pub ran_end : (w : World) (l : Left) (s : Status) (end : Result Over SysFault) → l.verdict ≡ Clean → Went w l.rest.0 l.rest.1 l.choices l.taken l.history l.device → IsSystem w l.history l.device → IsWhole w l.history l.device →
+    IfOk end (λ o. IsOver w l.history l.verdict l.device l.offered o) → IfOk end (λ o. (o ≡ over.Done) ⊎ (o ≡ over.Stalled)) → OnOk end (length l.choices ≡ length l.taken) →
     HasCause l.faults.0 l.faults.1 end → Ends end (state_after w l.history).desk.fences (s, l.fences) → Ran w l s
-ran_end w l s (Ok o) went system whole far last equal cause (inl done) =
-    ran_over w l o s system (through w l (state_after w l.history).desk.fences (underway w l went system whole) equal done.1 refl) far last done.0
-ran_end w l s (Ok o) went system whole far last equal cause (inr memory) = subst (Ran w l) (sym memory) (inr (underway w l went system whole))
-ran_end w l s (Err e) went system whole far last equal cause at = ran_fault w l e s (underway w l went system whole) cause at
+ran_end w l s (Ok o) clean went system whole far last equal cause (inl done) =
+    ran_over w l o s system (through w l (state_after w l.history).desk.fences (underway w l clean went system whole) equal done.1 refl) far last done.0
+ran_end w l s (Ok o) clean went system whole far last equal cause (inr memory) = subst (Ran w l) (sym memory) (inr (underway w l clean went system whole))
+ran_end w l s (Err e) clean went system whole far last equal cause at = ran_fault w l e s (underway w l clean went system whole) cause at
 
 -- a run that was refused before its first step
 pub ran_none : (w : World) (l : Left) (e : SysFault) (s : Status) → IsUnbegun w l → HasFaultCause e l.faults.0 l.faults.1 → s ≡ ended_by e → Ran w l s

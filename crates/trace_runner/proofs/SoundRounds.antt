@@ -13,7 +13,7 @@ use Rattle.d3d_machine.specs.World.{is_named}
 use Rattle.trace_words.specs.Words.{is_name}
 use Rattle.line_forms.specs.declared.kind.Kind.{Kind}
 use Rattle.line_forms.specs.declared.kind.Kind.TheVariants as kind
-use Rattle.trace_text.specs.Kinds.{count_of, most_of}
+use Rattle.trace_lines.specs.Kinds.{count_of, most_of}
 use Rattle.d3d_machine.specs.Counts.{lists_of_call}
 use Rattle.trace_text.specs.Sound.{is_wide, is_sound_call, IsSound}
 use Rattle.trace_text.specs.WorldOf.{objects_from}

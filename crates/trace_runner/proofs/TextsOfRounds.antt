@@ -7,12 +7,12 @@ use Rattle.std.proofs.lemmas.Fmt.{length-decimal-le}
 use Rattle.std.proofs.lemmas.List.{length-map}
 use Rattle.std.proofs.lemmas.List.Elements.{All-head, All-tail}
 use Rattle.trace_words.specs.Lines.{pieces_of}
-use Rattle.trace_text.specs.declared.item.Item.TheVariants.{Calls, Ends}
+use Rattle.trace_lines.specs.declared.item.Item.TheVariants.{Calls, Ends}
 use Rattle.trace_text.specs.Grammar.{text_of_lines}
-use Rattle.trace_text.specs.Formed.{item_text}
+use Rattle.trace_lines.specs.Formed.{item_text}
 use Rattle.line_forms.specs.Printing.{part_texts, rest_texts, line_words, joined, spaced, text_of}
 use Rattle.trace_text.specs.Items.{items_of, object_items, thread_items, trace_text}
-use Rattle.trace_text.specs.Known.{KnownNames, known_names, names_of_kind}
+use Rattle.trace_lines.specs.Known.{KnownNames, known_names, names_of_kind}
 use Rattle.trace_text.specs.Laws.{HasShortLines}
 use Rattle.line_forms.specs.Lines.{hex_word, hex_from, rest_of_line}
 use Rattle.trace_text.specs.Values.{value_of}

@@ -7,14 +7,16 @@ use Rattle.d3d_machine.specs.declared.world.World.{World}
 use Rattle.d3d_machine.specs.declared.events.Event.{Event}
 use Rattle.d3d_machine.specs.Play.{AreOfScripts, IsRun, IsRunButWords, IsFinished, state_after}
 use Rattle.text_io.specs.Prefix.{AppendsPart}
-use Rattle.trace_text.specs.declared.outcome.Outcome.{Outcome}
+use Rattle.run_text.specs.declared.outcome.Outcome.{Outcome}
 use Rattle.line_forms.specs.declared.cause.Cause.{Cause}
-use Rattle.trace_text.specs.declared.status.Status.{Status}
-use Rattle.trace_text.specs.declared.status.Status.TheVariants as status
-use Rattle.trace_text.specs.Output.{output_of, refused_of}
+use Rattle.run_text.specs.declared.status.Status.{Status}
+use Rattle.run_text.specs.declared.status.Status.TheVariants as status
+use Rattle.run_text.specs.Output.{output_of, refused_of}
 use Rattle.trace_text.specs.Values.{Value, value_of}
 use Rattle.trace_text.specs.WorldOf.{world_of_value}
 use Rattle.vk_types.specs.declared.plan.DevicePlan.{DevicePlan}
+use Rattle.verdicts.specs.declared.rules.Verdict.{Verdict}
+use Rattle.verdicts.specs.declared.rules.Verdict.TheVariants.{Clean}
 use Rattle.vk_port.specs.VkState.{VkState}
 use Rattle.sys_core.specs.declared.faults.SysFault.{SysFault}
 use Rattle.sys_core.specs.declared.faults.SysFault.TheVariants as fault
@@ -38,8 +40,8 @@ pub record Given : Type 0 where
   pub source : ℕ × ℕ
 
 -- what a run left: the counts of faults of the device before and after, how many free steps it had left to take before and
--- after, the choices, the steps taken, the history, the fences' last values, the device, how many free steps it offers, and
--- its plan
+-- after, the choices, the steps taken, the history, the fences' last values, the device, how many free steps it offers, its
+-- plan, and the verdict
 pub record Left : Type 0 where
   pub faults : ℕ × ℕ
   pub rest : ℕ × ℕ
@@ -50,6 +52,7 @@ pub record Left : Type 0 where
   pub device : VkState
   pub offered : ℕ
   pub plan : Option DevicePlan
+  pub verdict : Verdict
 
 -- a text that says something: the one that the source had, where it tells it
 pub record IsRead (told : Option (List ℕ)) (v : Value) : Type 0 where
@@ -74,10 +77,11 @@ pub record IsUnbegun (w : World) (l : Left) : Type 0 where
   pub untouched : IsUntouched l
   pub unopened : IsUnopened w l.plan l.device
 
--- the choices lead to the history and the device by the steps that were taken, which are counted; the history is a run but for words, in which
--- each thread's calls are the first of its script, and a run with its words where it is calm, and so in a world of rounds;
--- the device has the batches that its operations lower to
+-- the verdict is Clean, as it is for now; the choices lead to the history and the device by the steps that were taken, which
+-- are counted; the history is a run but for words, in which each thread's calls are the first of its script, and a run with
+-- its words where it is calm, and so in a world of rounds; the device has the batches that its operations lower to
 pub record IsUnderway (w : World) (l : Left) : Type 0 where
+  pub clean : l.verdict ≡ Clean
   pub went : Went w l.rest.0 l.rest.1 l.choices l.taken l.history l.device
   pub run : IsRunButWords w l.history
   pub scripts : AreOfScripts w l.history
@@ -105,7 +109,7 @@ pub record IsDone (w : World) (l : Left) : Type 0 where
 pub record IsStalled (w : World) (l : Left) : Type 0 where
   pub through : IsThrough w l
   pub unfinished : IsFinished w (state_after w l.history).desk → ⊥
-  pub no_step : length (enabled_of w l.history l.device l.offered) ≡ 0
+  pub no_step : length (enabled_of w l.history l.verdict l.device l.offered) ≡ 0
   pub stuck : CanGoOn w l.history → ⊥
   pub no_rounds : IsOfRounds w → ⊥
 
@@ -162,6 +166,7 @@ left_by log faults rest offered plan device o = record {
   device = device;
   offered = offered;
   plan = plan;
+  verdict = Clean;
 }
 
 -- the world of a trace was run, or was not for want of memory

@@ -8,8 +8,8 @@ use Rattle.d3d_machine.specs.declared.calls.Call.TheVariants as call
 use Rattle.d3d_machine.specs.declared.calls.Record.TheVariants.{Copy}
 use Rattle.d3d_machine.specs.declared.world.Resource.TheVariants.{Buffer}
 use Rattle.d3d_machine.specs.declared.world.World.{World}
-use Rattle.trace_text.specs.declared.object.Declared.{Declared}
-use Rattle.trace_text.specs.declared.object.Declared.TheVariants as declared
+use Rattle.trace_lines.specs.declared.object.Declared.{Declared}
+use Rattle.trace_lines.specs.declared.object.Declared.TheVariants as declared
 use Rattle.trace_text.specs.Values.{Value}
 
 -- a round: the words that it writes, and the value that it signals

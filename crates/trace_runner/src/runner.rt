@@ -6,20 +6,21 @@ ghost use Rattle.d3d_machine.specs.World.{IsWorld, HasOneQueueAtMost};
 ghost use Rattle.d3d_machine.specs.Play.{state_after};
 ghost use Rattle.sys_core.specs.Ahead.{IsWhole};
 ghost use Rattle.sys_core.specs.Keeps.{IsSystem};
+ghost use Rattle.verdicts.specs.declared.rules.Verdict.TheVariants.{Clean};
 ghost use Rattle.sys_core.specs.Over.{IsOver};
 ghost use Rattle.sys_core.specs.Serving.{HasCause, HasFaultCause};
 ghost use Rattle.sys_core.specs.declared.over.Over.TheVariants as over;
 ghost use Rattle.trace_runner.specs.Report.{Ends, IsReport, IsWritten, Ran, Says, Writes, IsUsageAt, IsRefusalAt, IsUnrun, IsTraceGiven, IsFaultless, IsComplete, ended_by, status_at, is_shown, refused_in, left_by, RanTrace};
 ghost use Rattle.trace_runner.specs.Steps.{Went};
 ghost use Rattle.trace_runner.specs.Words.{said_by, number_said};
-ghost use Rattle.trace_text.specs.Output.{output_of};
+ghost use Rattle.run_text.specs.Output.{output_of};
 ghost use Rattle.trace_text.specs.Seen.{seen};
 ghost use Rattle.trace_text.specs.Values.{value_of};
 ghost use Rattle.trace_text.specs.WorldOf.{world_of_value};
-ghost use Rattle.trace_text.specs.declared.outcome.Outcome.{Outcome as WhatCame};
+ghost use Rattle.run_text.specs.declared.outcome.Outcome.{Outcome as WhatCame};
 ghost use Rattle.trace_text.specs.Values.{Value};
-ghost use Rattle.trace_text.specs.declared.status.Status.TheVariants as status;
-ghost use Rattle.d3d_judge.specs.declared.rules.Verdict.TheVariants as verdict;
+ghost use Rattle.run_text.specs.declared.status.Status.TheVariants as status;
+ghost use Rattle.verdicts.specs.declared.rules.Verdict.TheVariants as verdict;
 
 use crate::log::Log;
 use crate::steps::take_steps;
@@ -27,13 +28,11 @@ use crate::words::read_words;
 use chooser::Chooser;
 use d3d_machine::{Event, World};
 use dx_base::{Memory, Seq, TRACE_BYTES};
+use run_text::{Outcome, Report, Status, Verdict, output, plain_line, refused_of};
 use std::alloc::Global;
 use sys_core::{Over, Sys, SysFault};
 use text_io::{ReadAll, Sink, Source, read_all, write_all};
-use trace_text::{
-    Outcome, Report, Status, Trace, TraceFault, Verdict, output, plain_line, read_trace,
-    refused_of, world,
-};
+use trace_text::{Trace, TraceFault, read_trace, world};
 use vk_port::VkDevice;
 
 /// The run of a world, before its output is written.
@@ -98,7 +97,7 @@ fn ending_of<D: VkDevice>(
 fn finish<D: VkDevice>(alloc: Global, sys: Sys<D>, end: Result<Over, SysFault>, log: &Log) -> Run<D>
     requires system { IsSystem sys.world sys.history (D.state sys.device) }
     requires whole { IsWhole sys.world sys.history (D.state sys.device) }
-    requires over { IfOk end (λ o. IsOver sys.world sys.history (D.state sys.device) (D.offered sys.device) o) }
+    requires over { IfOk end (λ o. IsOver sys.world sys.history Clean (D.state sys.device) (D.offered sys.device) o) }
     requires last { IfOk end (λ o. (o ≡ over.Done) ⊎ (o ≡ over.Stalled)) }
     requires equal { OnOk end (length log.now.choices.items ≡ length log.now.taken.items) }
     ensures { (before rest : ℕ) → HasCause before (D.faults sys.device) end →
@@ -113,6 +112,7 @@ fn finish<D: VkDevice>(alloc: Global, sys: Sys<D>, end: Result<Over, SysFault>, 
           device = D.state result.device;
           offered = D.offered result.device;
           plan = D.plan_of result.device;
+          verdict = Clean;
         }) result.status }
 {
     let _choices = log.choices.len();
@@ -151,6 +151,7 @@ fn run_world<D: VkDevice, C: Chooser>(
       device = D.state result.device;
       offered = D.offered result.device;
       plan = D.plan_of result.device;
+      verdict = Clean;
     }) result.status }
     ensures given { C.given choices.new ≡ log.new.choices.items }
     ensures started { C.started choices.new ≡ C.started choices.old }
@@ -364,6 +365,7 @@ pub fn simulate<S: Source, K: Sink, D: VkDevice, C: Chooser>(
       device = D.state result.device;
       offered = D.offered result.device;
       plan = D.plan_of result.device;
+      verdict = result.verdict;
     }) result.status }
     ensures unread { IfErr (said_by (map string_bytes words.now)) (λ _. source.new ≡ source.old) }
     ensures undrawn { IfErr (said_by (map string_bytes words.now)) (λ _. choices.new ≡ choices.old) }

@@ -8,6 +8,7 @@ ghost use Rattle.sys_core.specs.Keeps.{IsSystem};
 ghost use Rattle.sys_core.specs.Over.{IsOver};
 ghost use Rattle.sys_core.specs.declared.over.Over.TheVariants as over;
 ghost use Rattle.sys_core.specs.Serving.{HasCause};
+ghost use Rattle.verdicts.specs.declared.rules.Verdict.TheVariants.{Clean};
 ghost use Rattle.sys_core.specs.Steps.{enabled_of, CanBeTaken};
 ghost use Rattle.trace_runner.specs.Steps.{TookStep, TookNone, Went};
 
@@ -42,7 +43,7 @@ fn choose_step<D: VkDevice, C: Chooser>(
     log: &mut Log,
 ) -> Result<(), SysFault>
     requires running { IsFinished sys.old.world (state_after sys.old.world sys.old.history).desk → ⊥ }
-    requires some { 0 < length (enabled_of sys.old.world sys.old.history (D.state sys.old.device) (D.offered sys.old.device)) }
+    requires some { 0 < length (enabled_of sys.old.world sys.old.history Clean (D.state sys.old.device) (D.offered sys.old.device)) }
     requires system { IsSystem sys.old.world sys.old.history (D.state sys.old.device) }
     requires whole { IsWhole sys.old.world sys.old.history (D.state sys.old.device) }
     ensures took { OnOk result (TookStep D.state D.rest_of sys.old sys.new log.old log.new) }
@@ -73,7 +74,7 @@ pub(crate) fn take_steps<D: VkDevice, C: Chooser>(
     requires system { IsSystem sys.old.world sys.old.history (D.state sys.old.device) }
     requires whole { IsWhole sys.old.world sys.old.history (D.state sys.old.device) }
     requires given { C.given choices.old ≡ log.old.choices.items }
-    ensures over { IfOk result (λ o. IsOver sys.new.world sys.new.history (D.state sys.new.device) (D.offered sys.new.device) o) }
+    ensures over { IfOk result (λ o. IsOver sys.new.world sys.new.history Clean (D.state sys.new.device) (D.offered sys.new.device) o) }
     ensures ended { IfOk result (λ o. (o ≡ over.Done) ⊎ (o ≡ over.Stalled)) }
     ensures equal { OnOk result (length log.new.choices.items ≡ length log.new.taken.items) }
     ensures went { (rest : ℕ) → Went sys.old.world rest (D.rest_of sys.old.device) log.old.choices.items log.old.taken.items sys.old.history (D.state sys.old.device) →

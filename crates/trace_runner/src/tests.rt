@@ -8,10 +8,10 @@ mod runs;
 use crate::simulate;
 use chooser::ListChooser;
 use dx_base::Memory;
+use run_text::{Report, Status};
 use std::alloc::Global;
 use std::test::Fail;
 use text_io::{BytesSink, BytesSource};
-use trace_text::{Report, Status};
 use vk_port::PlainDevice;
 
 /// The declarations that most rows begin with.

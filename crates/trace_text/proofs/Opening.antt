@@ -1,7 +1,7 @@
 -- The objects, the threads and the calls of a sound value, the first line and the last may stand in lines.
 use Rattle.trace_text.proofs.Vocabulary.{ℕ, ◌≡◌, ◌==◌, ◌&&◌, ◌||◌, ◌∙◌, not, nat_lt, Bool, true, false, List, [], ◌∷◌, length, None, is_some, refl, sym, ap, subst, arith, if◌then◌else◌, lookup, bytes_eq, and_from, le-ltb, Call, is_named, IsGoodLine, is_sound_line, is_named_line, pass, Class, Item, Header, Declares, Starts, Calls, Ends, Declared, Reading, item_formed, form_row, kind_of, count_of, is_one_too_many, KnownNames, known_of, opening, is_second, is_header, fault_of_place, is_over, naming_of, is_call_too_many, is_fit_name, is_sound_object, is_sound_call, same_kind, objects_of}
 use Rattle.line_forms.specs.declared.kind.Kind.TheVariants as kind
-use Rattle.trace_text.specs.declared.form.Class.TheVariants as class
+use Rattle.trace_lines.specs.declared.form.Class.TheVariants as class
 use Rattle.trace_text.proofs.Fitting.{Fits, in_place, item_good, call_good}
 use Rattle.trace_text.proofs.NamesBack.{AreNamed}
 use Rattle.trace_text.proofs.Own.{item_class, object_class, own, object_wide, counts_in, named_same}

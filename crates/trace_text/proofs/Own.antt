@@ -7,9 +7,9 @@ use Rattle.d3d_machine.specs.declared.calls.Call.TheVariants as call
 use Rattle.d3d_machine.specs.declared.calls.Record.TheVariants.{Copy}
 use Rattle.trace_words.specs.Rows.{is_among}
 use Rattle.line_forms.specs.declared.kind.Kind.TheVariants as kind
-use Rattle.trace_text.specs.declared.form.Class.TheVariants as class
-use Rattle.trace_text.specs.declared.form.Form.TheVariants as form
-use Rattle.trace_text.specs.declared.object.Declared.TheVariants as declared
+use Rattle.trace_lines.specs.declared.form.Class.TheVariants as class
+use Rattle.trace_lines.specs.declared.form.Form.TheVariants as form
+use Rattle.trace_lines.specs.declared.object.Declared.TheVariants as declared
 
 -- the tests of an item's new name
 abbrev pub item_news : (List ℕ → Bool) → Item → List Bool

@@ -2,7 +2,7 @@
 use Rattle.trace_text.proofs.Vocabulary.{ℕ, ◌≡◌, ◌<◌, ◌≤◌, ◌+◌, ◌==◌, ◌&&◌, ◌||◌, ◌∙◌, nat_le, nat_lt, Bool, true, false, List, [], ◌∷◌, ◌++◌, length, map, Option, Some, None, Ok, refl, sym, ap, subst, arith, append-nil, append_assoc, if◌then◌else◌, list_all, lookup, bytes_eq, and_from, lt-ltb, le-leb, ltb-true, ltb-false, eqb-false, nat_tests, map_push, length-map, slice_get_within, Call, is_named, insert_entry, is_name, Cause, Kind, AreCalled, read_row, line_kept, AreShortNames, pass, pass_one, sound_read, named_read, new_read, Class, Item, Header, Declares, Starts, Calls, Ends, Declared, Reading, Thing, item_formed, item_words, form_row, kind_of, count_of, next_thing, is_one_too_many, KnownNames, names_of_kind, known_names, known_of, is_later, name_at, is_second, is_misplaced, is_header, fault_of_place, is_over, with_item, has_queue, has_thread, object_named, naming_of, is_call_too_many, is_fit_name, is_sound_object, is_sound_call, IsSound, Names, same_kind, value_in, world_of_value, objects_of}
 use Rattle.line_forms.specs.declared.cause.Cause.TheVariants as cause
 use Rattle.line_forms.specs.declared.kind.Kind.TheVariants as kind
-use Rattle.trace_text.specs.declared.form.Class.TheVariants as class
+use Rattle.trace_lines.specs.declared.form.Class.TheVariants as class
 use Rattle.trace_text.proofs.Naming.{names_in, insert_new, not_any, names_count, ArePlaced, placed_object, placed_thread}
 use Rattle.trace_text.proofs.Own.{item_news, object_class, item_class, is_timely, own, object_built, counts_in, named_same}
 use Rattle.trace_text.proofs.Passing.{no_cause}

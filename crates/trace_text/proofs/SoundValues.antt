@@ -18,7 +18,7 @@ pub count_push : (k : Kind) (ds : List Declared) (d : Declared) →
 count_push k ds d = sum_by_push (λ (x : Declared). if same_kind k (kind_of x) then 1 else 0) ds d
 
 -- a limit is kept by one more object
-few_more : (ds : List Declared) (d : Declared) (k : Kind) (most : ℕ) → (same_kind k (kind_of d) ≡ true → count_of k ds < most) →
+pub few_more : (ds : List Declared) (d : Declared) (k : Kind) (most : ℕ) → (same_kind k (kind_of d) ≡ true → count_of k ds < most) →
     count_of k ds ≤ most → count_of k (ds ++ d ∷ []) ≤ most
 few_more ds d k most room few = by_test (same_kind k (kind_of d)) refl
   where
@@ -27,12 +27,12 @@ few_more ds d k most room few = by_test (same_kind k (kind_of d)) refl
     by_test false is = rw (count_push k ds d, is) (omega (arith, few))
 
 -- an object is within the limits
-record IsWithin (ds : List Declared) (d : Declared) : Type 0 where
-  count : count_of (kind_of d) ds < most_of (kind_of d)
-  words : words_of_all ds + words_of_object d ≤ 1048576
+pub record IsWithin (ds : List Declared) (d : Declared) : Type 0 where
+  pub count : count_of (kind_of d) ds < most_of (kind_of d)
+  pub words : words_of_all ds + words_of_object d ≤ 1048576
 
 -- an object that is not one too many is within the limits
-within_limits : (ds : List Declared) (d : Declared) → is_one_too_many ds d ≡ false → IsWithin ds d
+pub within_limits : (ds : List Declared) (d : Declared) → is_one_too_many ds d ≡ false → IsWithin ds d
 unfolding is_one_too_many
 within_limits ds d is =
     let both = or_parts (nat_le (most_of (kind_of d)) (count_of (kind_of d) ds)) (nat_lt 1048576 (words_of_all ds + words_of_object d)) is in

@@ -12,13 +12,13 @@ use Rattle.std.specs.List.{AllByRecursion}
 use Rattle.trace_words.specs.Lines.{words_of, pieces_of, is_plain}
 use Rattle.trace_words.specs.Rows.{is_among}
 use Rattle.trace_words.specs.Words.{data_word_of}
-use Rattle.trace_text.specs.declared.form.Class.TheVariants as class
-use Rattle.trace_text.specs.declared.form.Form.TheVariants as form
+use Rattle.trace_lines.specs.declared.form.Class.TheVariants as class
+use Rattle.trace_lines.specs.declared.form.Form.TheVariants as form
 use Rattle.trace_text.specs.declared.reading.Reading.{Reading}
-use Rattle.trace_text.specs.Forms.{form_row}
-use Rattle.trace_text.specs.Formed.{made}
+use Rattle.trace_lines.specs.Forms.{form_row}
+use Rattle.trace_lines.specs.Formed.{made}
 use Rattle.trace_text.specs.Grammar.{text_of_lines, IsTextOf}
-use Rattle.trace_text.specs.Later.{is_later}
+use Rattle.trace_lines.specs.Later.{is_later}
 use Rattle.trace_text.specs.Reading.{fault_of_place, placed_of, taken_of, and_then, naming_of, read_item, meant_of, by_form, with_words}
 use Rattle.trace_text.specs.Spelling.{AreSpelled, IsSameWrite, AreAlike, SpellingsPlayNoPart}
 use Rattle.trace_text.specs.Texts.{is_skipped, with_line}

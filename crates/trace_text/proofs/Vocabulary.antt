@@ -40,18 +40,18 @@ pub use Rattle.std.specs.Cmp.Rules.{comparing}
 pub use Rattle.std.specs.List.{All, AllByRecursion, filter, join_with_byte, list_all, list_any, onto_first, range_with_len, slice_split}
 pub use Rattle.std.specs.Map.{lookup}
 pub use Rattle.std.specs.Str.{bytes_eq}
-pub use Rattle.trace_text.specs.Formed.{Formed, call_formed, formed, item_formed, item_words, list_named, made}
-unfoldable pub use Rattle.trace_text.specs.Formed.{item_text}
-pub use Rattle.trace_text.specs.Forms.{class_of, form_row, forms}
+pub use Rattle.trace_lines.specs.Formed.{Formed, call_formed, formed, item_formed, item_words, list_named, made}
+unfoldable pub use Rattle.trace_lines.specs.Formed.{item_text}
+pub use Rattle.trace_lines.specs.Forms.{class_of, form_row, forms}
 pub use Rattle.trace_text.specs.Grammar.{IsTextOf, text_of_lines}
 pub use Rattle.trace_text.specs.Items.{items_of}
 unfoldable pub use Rattle.trace_text.specs.Items.{object_items, thread_items, trace_text}
-pub use Rattle.trace_text.specs.Kinds.{count_of, is_refused_size, kind_of, most_of, next_thing, words_of_all, words_of_object}
-unfoldable pub use Rattle.trace_text.specs.Kinds.{is_one_too_many}
-pub use Rattle.trace_text.specs.Known.{KnownNames, known_names, known_of, with_name}
-unfoldable pub use Rattle.trace_text.specs.Known.{names_of_kind}
-unfoldable pub use Rattle.trace_text.specs.Later.{is_later}
-pub use Rattle.trace_text.specs.Names.{name_at}
+pub use Rattle.trace_lines.specs.Kinds.{count_of, is_refused_size, kind_of, most_of, next_thing, words_of_all, words_of_object}
+unfoldable pub use Rattle.trace_lines.specs.Kinds.{is_one_too_many}
+pub use Rattle.trace_lines.specs.Known.{KnownNames, known_names, known_of}
+unfoldable pub use Rattle.trace_lines.specs.Known.{names_of_kind}
+unfoldable pub use Rattle.trace_lines.specs.Later.{is_later}
+pub use Rattle.trace_lines.specs.Names.{name_at}
 pub use Rattle.trace_text.specs.Reading.{and_then, by_form, has_queue, has_thread, is_formless, is_header, is_misplaced, is_second, naming_of, object_named, opening}
 unfoldable pub use Rattle.trace_text.specs.Reading.{fault_of_place, is_over, meant_of, placed_of, read_item, taken_of, with_item, with_words}
 unfoldable pub use Rattle.trace_text.specs.Scripts.{is_call_too_many, with_call}
@@ -59,20 +59,20 @@ pub use Rattle.trace_text.specs.Seen.{seen}
 pub use Rattle.trace_text.specs.Sound.{IsSound, is_fit_name, is_sound_call, is_sound_object}
 pub use Rattle.trace_text.specs.Texts.{at_line, is_skipped}
 unfoldable pub use Rattle.trace_text.specs.Texts.{pieces_from, reading_of, sized, with_last, with_line}
-pub use Rattle.trace_text.specs.Things.{Names, kind_code, numbered, same_kind}
-unfoldable pub use Rattle.trace_text.specs.Things.{new_name, number_named, thing_of}
+pub use Rattle.trace_lines.specs.Things.{Names, kind_code, numbered, same_kind}
+unfoldable pub use Rattle.trace_lines.specs.Things.{new_name, number_named, thing_of}
 pub use Rattle.trace_text.specs.Values.{AreLinesOf, IsWritten, Value, value_in, valued}
 unfoldable pub use Rattle.trace_text.specs.Values.{value_of, with_lines}
 pub use Rattle.trace_text.specs.WorldOf.{allocator_in, fence_in, list_in, no_objects, objects_of, queue_in, resource_in, with_object, world_of_value}
 unfoldable pub use Rattle.trace_text.specs.WorldOf.{objects_from}
-pub use Rattle.trace_text.specs.declared.form.Class.{Class}
-pub use Rattle.trace_text.specs.declared.form.Form.{Form}
-pub use Rattle.trace_text.specs.declared.item.Item.{Item}
-pub use Rattle.trace_text.specs.declared.item.Item.TheVariants.{Calls, Declares, Ends, Header, Starts}
-pub use Rattle.trace_text.specs.declared.object.Declared.{Declared}
-pub use Rattle.trace_text.specs.declared.object.Declared.TheVariants.{Allocator, Buffer, Fence, List as list, Queue}
+pub use Rattle.trace_lines.specs.declared.form.Class.{Class}
+pub use Rattle.trace_lines.specs.declared.form.Form.{Form}
+pub use Rattle.trace_lines.specs.declared.item.Item.{Item}
+pub use Rattle.trace_lines.specs.declared.item.Item.TheVariants.{Calls, Declares, Ends, Header, Starts}
+pub use Rattle.trace_lines.specs.declared.object.Declared.{Declared}
+pub use Rattle.trace_lines.specs.declared.object.Declared.TheVariants.{Allocator, Buffer, Fence, List as list, Queue}
 pub use Rattle.trace_text.specs.declared.reading.Reading.{Reading}
-pub use Rattle.trace_text.specs.declared.things.Thing.{Thing}
+pub use Rattle.trace_lines.specs.declared.things.Thing.{Thing}
 pub use Rattle.trace_text.specs.declared.trace.Trace.{Trace}
 pub use Rattle.trace_words.specs.Cut.{CutsOff}
 pub use Rattle.trace_words.specs.Lines.{is_plain_byte, pieces_of, words_of}

@@ -1,11 +1,11 @@
 -- The lines of a trace.
 use Rattle.std.specs.Prelude.{ℕ, List, [], ◌∷◌, ◌++◌, map, flat_map, length, drop}
 use Rattle.d3d_machine.specs.declared.calls.Call.{Call}
-use Rattle.trace_text.specs.declared.item.Item.{Item}
-use Rattle.trace_text.specs.declared.item.Item.TheVariants.{Header, Declares, Starts, Calls, Ends}
-use Rattle.trace_text.specs.declared.object.Declared.{Declared}
-use Rattle.trace_text.specs.Formed.{item_text}
-use Rattle.trace_text.specs.Known.{known_names}
+use Rattle.trace_lines.specs.declared.item.Item.{Item}
+use Rattle.trace_lines.specs.declared.item.Item.TheVariants.{Header, Declares, Starts, Calls, Ends}
+use Rattle.trace_lines.specs.declared.object.Declared.{Declared}
+use Rattle.trace_lines.specs.Formed.{item_text}
+use Rattle.trace_lines.specs.Known.{known_names}
 use Rattle.trace_text.specs.Values as trace
 
 -- the lines that declare objects

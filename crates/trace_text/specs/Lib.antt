@@ -1,15 +1,6 @@
-pub mod Status
-pub mod Names
-pub mod Text
-pub mod Things
-pub mod Known
-pub mod Forms
-pub mod Formed
 pub mod Gives
-pub mod Kinds
 pub mod Counted
 pub mod Scripts
-pub mod Later
 pub mod Reading
 pub mod Texts
 pub mod Values
@@ -19,8 +10,4 @@ pub mod Items
 pub mod Laws
 pub mod Sound
 pub mod Grammar
-pub mod History
-pub mod Left
-pub mod Output
-pub mod StalledLines
 pub mod Spelling

@@ -4,22 +4,22 @@ use Rattle.std.specs.Str.{bytes_eq}
 use Rattle.indexmap.specs.IndexMap.{insert_entry}
 use Rattle.line_forms.specs.declared.cause.Cause.{Cause}
 use Rattle.line_forms.specs.declared.cause.Cause.TheVariants as cause
-use Rattle.trace_text.specs.declared.item.Item.{Item}
-use Rattle.trace_text.specs.declared.item.Item.TheVariants as item
-use Rattle.trace_text.specs.declared.form.Class.{Class}
-use Rattle.trace_text.specs.declared.form.Class.TheVariants as class
+use Rattle.trace_lines.specs.declared.item.Item.{Item}
+use Rattle.trace_lines.specs.declared.item.Item.TheVariants as item
+use Rattle.trace_lines.specs.declared.form.Class.{Class}
+use Rattle.trace_lines.specs.declared.form.Class.TheVariants as class
 use Rattle.trace_text.specs.declared.reading.Reading.{Reading}
 use Rattle.line_forms.specs.declared.kind.Kind.{Kind}
 use Rattle.line_forms.specs.declared.kind.Kind.TheVariants as kind
 use Rattle.line_forms.specs.Causes.{wrapped}
 use Rattle.line_forms.specs.Finding.{form_for}
 use Rattle.line_forms.specs.Reading.{Naming, read_row}
-use Rattle.trace_text.specs.declared.form.Form.{Form}
-use Rattle.trace_text.specs.Forms.{forms, form_row, class_of}
-use Rattle.trace_text.specs.Formed.{made}
-use Rattle.trace_text.specs.Things.{Names, number_named, new_name}
-use Rattle.trace_text.specs.Kinds.{count_of, next_thing, is_one_too_many}
-use Rattle.trace_text.specs.Later.{is_later}
+use Rattle.trace_lines.specs.declared.form.Form.{Form}
+use Rattle.trace_lines.specs.Forms.{forms, form_row, class_of}
+use Rattle.trace_lines.specs.Formed.{made}
+use Rattle.trace_lines.specs.Things.{Names, number_named, new_name}
+use Rattle.trace_lines.specs.Kinds.{count_of, next_thing, is_one_too_many}
+use Rattle.trace_lines.specs.Later.{is_later}
 use Rattle.trace_text.specs.Scripts.{is_call_too_many, with_call}
 
 -- nothing is read

@@ -9,14 +9,14 @@ use Rattle.dx_base.specs.declared.kinds.ListType.TheVariants as type_of
 use Rattle.d3d_machine.specs.declared.calls.Call.{Call}
 use Rattle.d3d_machine.specs.World.{are_named}
 use Rattle.trace_words.specs.Words.{is_name}
-use Rattle.trace_text.specs.declared.object.Declared.{Declared}
-use Rattle.trace_text.specs.declared.object.Declared.TheVariants as declared
+use Rattle.trace_lines.specs.declared.object.Declared.{Declared}
+use Rattle.trace_lines.specs.declared.object.Declared.TheVariants as declared
 use Rattle.line_forms.specs.declared.kind.Kind.{Kind}
 use Rattle.line_forms.specs.declared.kind.Kind.TheVariants as kind
 use Rattle.line_forms.specs.Sound.{is_sound_line}
-use Rattle.trace_text.specs.Formed.{call_formed}
-use Rattle.trace_text.specs.Forms.{form_row}
-use Rattle.trace_text.specs.Kinds.{count_of, most_of, words_of_all}
+use Rattle.trace_lines.specs.Formed.{call_formed}
+use Rattle.trace_lines.specs.Forms.{form_row}
+use Rattle.trace_lines.specs.Kinds.{count_of, most_of, words_of_all}
 use Rattle.d3d_machine.specs.Counts.{calls_in_all, lists_in_all}
 use Rattle.trace_text.specs.Values.{Value}
 use Rattle.trace_text.specs.WorldOf.{world_of_value}

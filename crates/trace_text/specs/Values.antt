@@ -1,7 +1,7 @@
 -- What a trace says, and the texts that write it.
 use Rattle.std.specs.Prelude.{ℕ, ◌≡◌, true, List, [], ◌∷◌, map, Result, Ok, Err}
 use Rattle.d3d_machine.specs.declared.calls.Call.{Call}
-use Rattle.trace_text.specs.declared.object.Declared.{Declared}
+use Rattle.trace_lines.specs.declared.object.Declared.{Declared}
 use Rattle.trace_text.specs.declared.reading.Reading.{Reading}
 use Rattle.line_forms.specs.declared.cause.Cause.{Cause}
 use Rattle.trace_text.specs.Reading.{opening, and_then}

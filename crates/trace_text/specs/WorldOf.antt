@@ -4,9 +4,9 @@ use Rattle.dx_base.specs.declared.kinds.ListType.{ListType}
 use Rattle.d3d_machine.specs.declared.world.Resource.{Resource}
 use Rattle.d3d_machine.specs.declared.world.Resource.TheVariants.{Buffer}
 use Rattle.d3d_machine.specs.declared.world.World.{World}
-use Rattle.trace_text.specs.declared.object.Declared.{Declared}
-use Rattle.trace_text.specs.declared.object.Declared.TheVariants as declared
-use Rattle.trace_text.specs.Kinds.{is_refused_size}
+use Rattle.trace_lines.specs.declared.object.Declared.{Declared}
+use Rattle.trace_lines.specs.declared.object.Declared.TheVariants as declared
+use Rattle.trace_lines.specs.Kinds.{is_refused_size}
 use Rattle.trace_text.specs.Values.{Value}
 
 -- the queue, the fence, the resource, the allocator or the list that a declaration makes; a resource whose creation is

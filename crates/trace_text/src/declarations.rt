@@ -1,38 +1,32 @@
 //! The objects that are declared, counted.
 
 ghost use Rattle.std.specs.Prelude.{◌≡◌, ◌++◌, [], ◌∷◌, false, OnOk};
-ghost use Rattle.line_forms.specs.declared.kind.Kind.TheVariants as kind;
-ghost use Rattle.trace_text.specs.Kinds.{count_of, most_of, is_one_too_many, next_thing};
+ghost use Rattle.trace_lines.specs.Kinds.{count_of, most_of, is_one_too_many, next_thing};
 
-use crate::object::Declared;
-use crate::things::Thing;
 use dx_base::{ALL_WORDS, ALLOCATORS, FENCES, LISTS, Memory, QUEUES, RESOURCES, Seq, THREADS};
 use line_forms::Kind;
 use std::alloc::Global;
 use std::marker::Model;
+use trace_lines::{Declared, Thing, place_of};
 
-/// The objects that are declared, in order, with their counts.
+/// The objects that are declared, in order, with their counts by the places of their kinds.
 #[derive(Drop)]
 pub struct Declarations {
     list: Seq<Declared>,
-    queues: u32,
-    fences: u32,
-    resources: u32,
-    allocators: u32,
-    lists: u32,
+    counts: [u32; 6],
     words: u64,
 }
 
 impl Model for Declarations {
     ghost use Rattle.std.specs.Prelude.{List};
-    ghost use Rattle.trace_text.specs.declared.object.Declared.{Declared};
+    ghost use Rattle.trace_lines.specs.declared.object.Declared.{Declared};
     ghost use Rattle.trace_text.specs.Counted.{IsCounted};
 
     ghost Value = { List Declared };
 
     ghost view = { λ d. d.list };
 
-    ghost invariant = { λ d. IsCounted d.list d.queues d.fences d.resources d.allocators d.lists d.words };
+    ghost invariant = { λ d. IsCounted d.list d.counts d.words };
 }
 
 /// How many things of a kind a trace has at most.
@@ -56,11 +50,7 @@ impl Declarations {
     {
         Declarations {
             list: Seq::new(alloc),
-            queues: 0,
-            fences: 0,
-            resources: 0,
-            allocators: 0,
-            lists: 0,
+            counts: [0; 6],
             words: 0,
         }
     }
@@ -75,18 +65,11 @@ impl Declarations {
     pub fn count(&self, kind: Kind) -> u32
         ensures { result ≡ count_of kind self.now }
     {
-        match kind {
-            Kind::Queue => self.queues,
-            Kind::Fence => self.fences,
-            Kind::Resource => self.resources,
-            Kind::Allocator => self.allocators,
-            Kind::List => self.lists,
-            Kind::Thread => 0,
-        }
+        self.counts[place_of(kind)]
     }
 
     /// One more object would be too many, or have too many words with the others.
-    #[tactic(auto, unfolding(crate::specs::Kinds::is_one_too_many))]
+    #[tactic(auto, unfolding(trace_lines::specs::Kinds::is_one_too_many))]
     pub fn is_one_too_many(&self, object: &Declared) -> bool
         ensures { result ≡ is_one_too_many self.now object.now }
     {
@@ -105,20 +88,15 @@ impl Declarations {
     }
 
     /// Takes one more object.
-    #[tactic(auto, unfolding(crate::specs::Kinds::is_one_too_many))]
+    #[tactic(auto, unfolding(trace_lines::specs::Kinds::is_one_too_many))]
     pub fn push(&mut self, object: Declared) -> Result<(), Memory>
         requires { is_one_too_many self.old object ≡ false }
         ensures { OnOk result (self.new ≡ self.old ++ object ∷ []) }
     {
+        let (kind, words) = (object.kind(), object.words());
         self.list.push(object)?;
-        self.words += object.words();
-        match object {
-            Declared::Queue { kind: _ } => self.queues += 1,
-            Declared::Fence { value: _ } => self.fences += 1,
-            Declared::Buffer { home: _, bytes: _ } => self.resources += 1,
-            Declared::Allocator { kind: _ } => self.allocators += 1,
-            Declared::List { kind: _ } => self.lists += 1,
-        }
+        self.words += words;
+        self.counts[place_of(kind)] += 1;
         Ok(())
     }
 }

@@ -2,7 +2,6 @@
 
 ghost use Rattle.trace_text.specs.Laws.{SaysSound, ReadsTexts, PrintsBack, ReadsSound, FirstBytesCount};
 ghost use Rattle.trace_text.specs.Spelling.{SpellingsPlayNoPart};
-ghost use Rattle.trace_text.specs.StalledLines.{StalledLinesTellTheState};
 
 /// What lines write is sound, and so is what each trace says: names are spelled well and differ, calls name objects,
 /// and all limits are kept.
@@ -30,13 +29,6 @@ pub fn each_sound_value_is_read_of_its_text()
 /// The first 16,777,217 bytes of a text say what the whole text says: the value, or the first bad line and its cause.
 pub fn only_the_first_bytes_count()
     ensures { FirstBytesCount }
-{}
-
-/// The lines of a stalled run tell the machine's state after the history: a thread is unfinished exactly where it has
-/// calls left or waits, and a queue is not empty exactly where a called operation is not complete.
-#[tactic(auto, using(crate::proofs::StalledLines::stalled_lines_tell))]
-pub fn stalled_lines_tell_the_state()
-    ensures { StalledLinesTellTheState }
 {}
 
 /// Lines that differ in the spelling of data words alone, as `1` and `00000001`, write the same value, and the text of

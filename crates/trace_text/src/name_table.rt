@@ -5,14 +5,14 @@ ghost use Rattle.trace_words.specs.Words.{is_name};
 ghost use Rattle.std.specs.Option.{option_copied};
 ghost use Rattle.std.specs.Str.{bytes_eq};
 ghost use Rattle.indexmap.specs.IndexMap.{insert_entry};
-ghost use Rattle.trace_text.specs.Things.{thing_of, number_named, new_name};
+ghost use Rattle.trace_lines.specs.Things.{thing_of, number_named, new_name};
 
-use crate::things::{Thing, same_kind};
 use dx_base::{Memory, Seq};
 use indexmap::IndexMap;
 use line_forms::{Cause, Kind, Naming};
 use std::alloc::Global;
 use std::marker::Model;
+use trace_lines::{Thing, same_kind};
 use trace_words::{Name, is_name};
 
 /// The names that are declared, each with what it names, in order of declaration.
@@ -23,7 +23,7 @@ pub struct NameTable {
 
 impl Model for NameTable {
     ghost use Rattle.std.specs.Prelude.{ℕ, List};
-    ghost use Rattle.trace_text.specs.declared.things.Thing.{Thing};
+    ghost use Rattle.trace_lines.specs.declared.things.Thing.{Thing};
 
     ghost Value = { List (List ℕ × Thing) };
 
@@ -41,7 +41,7 @@ impl NameTable {
     }
 
     /// What a word names.
-    #[tactic(auto, unfolding(crate::specs::Things::thing_of))]
+    #[tactic(auto, unfolding(trace_lines::specs::Things::thing_of))]
     fn find(&self, word: &[u8]) -> Option<Thing>
         requires { is_name word.now ≡ true }
         ensures { result ≡ thing_of self.now word.now }
@@ -52,7 +52,7 @@ impl NameTable {
 
     /// The number of the thing of that kind that a word names. `Form`: the word is spelled as no name; `Name`: it
     /// names no thing of that kind.
-    #[tactic(auto, unfolding(crate::specs::Things::number_named))]
+    #[tactic(auto, unfolding(trace_lines::specs::Things::number_named))]
     fn number_of(&self, kind: Kind, word: &[u8]) -> Result<u32, Cause>
         ensures { result ≡ number_named kind self.now word.now }
     {
@@ -67,7 +67,7 @@ impl NameTable {
 
     /// A word as a new name. `Form`: the word is spelled as no name; `Again`: it is declared; `Limit`: it is too
     /// long.
-    #[tactic(auto, unfolding(crate::specs::Things::new_name))]
+    #[tactic(auto, unfolding(trace_lines::specs::Things::new_name))]
     fn new_name(&self, word: &[u8]) -> Result<Name, Cause>
         ensures { result ≡ new_name self.now word.now }
     {

@@ -1,18 +1,33 @@
 //! The printer of a trace.
 
 ghost use Rattle.std.specs.Prelude.{◌≡◌, ◌++◌, flat_map, IfOk, OnOk};
-ghost use Rattle.trace_text.specs.Items.{thread_items, trace_text};
-ghost use Rattle.trace_text.specs.Formed.{item_text};
+ghost use Rattle.trace_text.specs.Items.{object_items, thread_items, trace_text};
+ghost use Rattle.trace_lines.specs.Formed.{item_text};
 ghost use Rattle.trace_text.specs.Seen.{seen};
 
-use crate::known::{Known, behind, nth};
-use crate::printed::{put_end, put_header, put_objects, put_start};
-use crate::printed_calls::put_calls;
 use crate::trace::Trace;
 use d3d_machine::Call;
 use dx_base::{Memory, Seq};
 use std::alloc::Global;
+use trace_lines::{Declared, Known, behind, put_calls, put_end, put_header, put_object, put_start};
 use trace_words::Name;
+
+/// Appends the lines of objects. An object without a name has none.
+#[tactic(auto, unfolding(crate::specs::Items::object_items))]
+fn put_objects(
+    out: &mut Vec<u8>,
+    known: &Known<'_>,
+    names: &[Name],
+    objects: &[Declared],
+) -> Result<(), Memory>
+    ensures { OnOk result (out.new.items
+        ≡ out.old.items ++ flat_map (item_text known.now) (object_items names.now objects.now)) }
+{
+    for at in 0..names.len().min(objects.len()) {
+        put_object(out, known, &names[at], &objects[at])?;
+    }
+    Ok(())
+}
 
 /// Appends the lines of threads, each with its calls. A thread without a name has none.
 #[tactic(auto, unfolding(crate::specs::Items::thread_items))]
@@ -26,11 +41,9 @@ fn put_threads(
     ensures { OnOk result (out.new.items
         ≡ out.old.items ++ flat_map (item_text known.now) (thread_items names.now scripts.now)) }
 {
-    for at in 0..scripts.len() {
-        if let Some(name) = nth(names, at) {
-            put_start(out, known, name)?;
-            put_calls(alloc, out, known, scripts[at].as_slice())?;
-        }
+    for at in 0..names.len().min(scripts.len()) {
+        put_start(out, known, &names[at])?;
+        put_calls(alloc, out, known, scripts[at].as_slice())?;
     }
     Ok(())
 }

@@ -1,23 +1,19 @@
 //! What was read of a trace so far.
 
 ghost use Rattle.std.specs.Prelude.{◌≡◌, map, false, OnOk, IfOk};
-ghost use Rattle.trace_text.specs.declared.item.Item.TheVariants as item;
+ghost use Rattle.trace_lines.specs.declared.item.Item.TheVariants as item;
 ghost use Rattle.trace_text.specs.Gives.{Gives, Leaves};
 ghost use Rattle.trace_text.specs.Reading.{opening, has_queue, has_thread, is_second, is_misplaced, fault_of_place, is_formless, placed_of, is_over, with_item, taken_of, and_then, read_item, meant_of, by_form, with_words};
 
 use crate::declarations::Declarations;
-use crate::form::{Class, Form, form_of};
-use crate::item::{Item, item_of};
-use crate::later::is_later;
 use crate::line_fault::LineFault;
 use crate::name_table::NameTable;
-use crate::object::Declared;
 use crate::scripts::Scripts;
-use crate::things::Thing;
 use d3d_machine::Call;
 use dx_base::{Memory, THREADS};
 use line_forms::{Cause, Kind, read_line};
 use std::alloc::Global;
+use trace_lines::{Class, Declared, Form, Item, Thing, form_of, is_later, item_of};
 use trace_words::Name;
 
 /// What was read of a trace so far: whether its header and its end were, the declared names, the declared objects,

@@ -1,7 +1,6 @@
-//! Worked rows: texts, near misses, texts at the limits, and what is printed.
+//! Worked rows: texts, near misses, texts at the limits, and printed traces.
 
 mod limits;
 mod misses;
-mod outputs;
 mod printed;
 mod traces;

@@ -2,9 +2,9 @@
 
 ghost use Rattle.trace_text.specs.Values.{IsWritten};
 
-use crate::object::Declared;
 use d3d_machine::Call;
 use dx_base::Seq;
+use trace_lines::Declared;
 use trace_words::Name;
 
 /// What a text says: objects and the calls of threads. Each value is one that a text writes, with all names spelled

@@ -2,15 +2,15 @@
 
 ghost use Rattle.std.specs.Prelude.{◌≡◌, [], ◌∷◌, IfOk, OnOk};
 ghost use Rattle.d3d_machine.specs.World.{IsWorld, HasOneQueueAtMost};
-ghost use Rattle.trace_text.specs.declared.object.Declared.TheVariants as declared_object;
+ghost use Rattle.trace_lines.specs.declared.object.Declared.TheVariants as declared_object;
 ghost use Rattle.trace_text.specs.Seen.{seen};
 ghost use Rattle.trace_text.specs.WorldOf.{resource_in, with_object, objects_of, world_of_value};
 
-use crate::object::{Declared, is_refused_size};
 use crate::trace::Trace;
 use d3d_machine::{Call, Resource, World};
 use dx_base::{Home, Memory, Seq};
 use std::alloc::Global;
+use trace_lines::{Declared, is_refused_size};
 
 /// The buffer of that size in bytes, where its creation is not refused.
 fn buffer(home: Home, bytes: u64) -> Option<Resource>

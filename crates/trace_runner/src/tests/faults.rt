@@ -1,8 +1,8 @@
 //! Faults of a source, of a sink and of a device, at the first call and in mid-stream.
 
 use super::{DECLARATIONS, Given, ITS_OUTPUT, ROUND, plain, report_of, run_of};
+use run_text::Status;
 use std::test::Fail;
-use trace_text::Status;
 
 /// What is printed where the device is lost before anything was answered.
 const LOST: &str = "device lost 887a0005\n";

@@ -1,8 +1,9 @@
 //! Texts, with the status and the output of their runs.
 
 use super::{DECLARATIONS, Given, ITS_OUTPUT, ROUND, plain, run_of};
+use run_text::Status;
 use std::test::Fail;
-use trace_text::{Cause, Status};
+use trace_text::Cause;
 
 /// The declarations, the calls, the status and the output of a run.
 type Row = (&'static str, &'static str, Status, &'static str);

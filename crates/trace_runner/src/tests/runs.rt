@@ -2,9 +2,9 @@
 
 use super::{DECLARATIONS, Given, ITS_OUTPUT, ROUND, plain, report_of, run_of};
 use dx_base::Memory;
+use run_text::Status;
 use std::alloc::{AllocError, Global};
 use std::test::Fail;
-use trace_text::Status;
 
 /// Forty numbers that a seed gives.
 fn numbers(alloc: Global, seed: u64) -> Result<Vec<u64>, Memory> {

@@ -4,7 +4,7 @@ use Rattle.dx_base.proofs.Each.{each_got}
 use Rattle.dx_base.proofs.Lists.{write_is_changed}
 use Rattle.d3d_judge.specs.WordTouches.{HasQueue}
 use Rattle.d3d_judge.proofs.CarriedClocks.{got, on_ok}
-use Rattle.d3d_judge.proofs.WordTouches.{sub_found, all_kept, all_keep_shapes, scope_tables_at}
+use Rattle.d3d_judge.proofs.WordTouches.{sub_found, all_kept, all_keep_shapes, all_keep_tables, scope_tables_at}
 use Rattle.d3d_judge.proofs.word_touches.make_for_scope_at.Goals as goal
 
 pub make_for_scope_in-requires-clause-sub : goal.make_for_scope_in-requires-clause-sub
@@ -32,3 +32,9 @@ returns-clause-tables c =
     (write_is_changed (λ _. c.make_for_scope_in.new.subs) c.args.resources.now c.args.access.resource c.at_mut-subs.result.now c.make_for_scope_in.new.subs c.requires.sub.resource c.at_mut-subs.ensures.value refl)
     (each_got (λ xs. Each (HasQueue c.args.queue) xs) c.args.resources.now c.args.access.resource c.at_mut-subs.result.now c.requires.actors found) c.requires.wide c.requires.inside)
     c.make_for_scope_in.ensures.made
+
+pub returns-clause-kept : goal.returns-clause-kept
+returns-clause-kept c =
+    all_keep_tables c.args.words c.args.access.resource c.args.access.sub c.args.resources.now _ c.at_mut-subs.result.now c.make_for_scope_in.new.subs
+    (got c.args.resources.now c.args.access.resource c.at_mut-subs.result.now c.requires.sub.resource c.at_mut-subs.ensures.value) c.make_for_scope_in.ensures.kept
+    (write_is_changed (λ _. c.make_for_scope_in.new.subs) c.args.resources.now c.args.access.resource c.at_mut-subs.result.now c.make_for_scope_in.new.subs c.requires.sub.resource c.at_mut-subs.ensures.value refl)

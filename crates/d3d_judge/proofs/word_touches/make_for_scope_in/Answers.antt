@@ -12,6 +12,7 @@ returns-clause-kept c = record {
   set = write_is_changed (λ _. c.make_for_scope.new.self) c.args.subs.now c.args.access.sub c.at_mut.result.now c.make_for_scope.new.self c.requires.sub c.at_mut.ensures.value refl;
   ties = c.make_for_scope.ensures.ties;
   shape = c.make_for_scope.ensures.shape;
+  tables = c.make_for_scope.ensures.tables;
 }
 
 pub returns-clause-made : goal.returns-clause-made

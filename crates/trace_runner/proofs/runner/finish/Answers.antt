@@ -1,5 +1,6 @@
 -- The run is what its last step and its end say.
-use Rattle.std.proofs.Common.{sym, subst}
+use Rattle.std.proofs.Common.{sym, subst, refl}
+use Rattle.verdicts.specs.declared.rules.Verdict.TheVariants.{Clean}
 use Rattle.trace_runner.specs.Report.{Ran}
 use Rattle.trace_runner.proofs.Concluding.{ran_end}
 use Rattle.trace_runner.proofs.runner.finish.Goals as goal
@@ -16,6 +17,7 @@ returns g c before rest cause went =
       device = g.D.VkDevice.state d;
       offered = g.D.VkDevice.offered d;
       plan = g.D.VkDevice.plan_of d;
+      verdict = Clean;
     }) c.ending_of-status.result.0) (sym c.into_parts-history.ensures.device)
     (subst (λ h. Ran c.args.sys.world (record {
       faults = (before, g.D.VkDevice.faults c.args.sys.device);
@@ -27,6 +29,7 @@ returns g c before rest cause went =
       device = g.D.VkDevice.state c.args.sys.device;
       offered = g.D.VkDevice.offered c.args.sys.device;
       plan = g.D.VkDevice.plan_of c.args.sys.device;
+      verdict = Clean;
     }) c.ending_of-status.result.0) (sym c.into_parts-history.ensures.history)
     (ran_end c.args.sys.world (record {
       faults = (before, g.D.VkDevice.faults c.args.sys.device);
@@ -38,5 +41,6 @@ returns g c before rest cause went =
       device = g.D.VkDevice.state c.args.sys.device;
       offered = g.D.VkDevice.offered c.args.sys.device;
       plan = g.D.VkDevice.plan_of c.args.sys.device;
-    }) c.ending_of-status.result.0 c.args.end went c.requires.system c.requires.whole c.requires.over c.requires.last c.requires.equal cause
+      verdict = Clean;
+    }) c.ending_of-status.result.0 c.args.end refl went c.requires.system c.requires.whole c.requires.over c.requires.last c.requires.equal cause
     c.ending_of-status.ensures))

@@ -1,6 +1,6 @@
 -- The line is there, and is the whole text.
-use Rattle.trace_text.specs.declared.status.Status.TheVariants as status
-use Rattle.trace_text.specs.Output.{output_of}
+use Rattle.run_text.specs.declared.status.Status.TheVariants as status
+use Rattle.run_text.specs.Output.{output_of}
 use Rattle.trace_runner.proofs.Concluding.{there}
 use Rattle.trace_runner.proofs.runner.out_of_memory_text.Goals as goal
 

@@ -1,6 +1,7 @@
 -- The run of a world, from what its steps leave.
 use Rattle.std.proofs.Common.{◌∙◌, sym, ap, subst}
 use Rattle.sys_core.specs.Opened.{opened}
+use Rattle.verdicts.specs.declared.rules.Verdict.TheVariants.{Clean}
 use Rattle.trace_runner.specs.Report.{Ran}
 use Rattle.trace_runner.proofs.Concluding.{cause_since}
 use Rattle.trace_runner.proofs.Going.{went_first}
@@ -18,6 +19,7 @@ returns-in-Ok-clause-ran g c =
       device = g.D.VkDevice.state c.finish.result.device;
       offered = g.D.VkDevice.offered c.finish.result.device;
       plan = g.D.VkDevice.plan_of c.finish.result.device;
+      verdict = Clean;
     }) c.finish.result.status) (c.take_steps-end.ensures.world ∙ c.in-Ok.ensures.world)
     (c.finish.ensures (g.D.VkDevice.faults c.args.device) (g.D.VkDevice.rest_of c.args.device)
     (cause_since c.take_steps-end.result (g.D.VkDevice.faults c.args.device) (g.D.VkDevice.faults c.in-Ok.sys.device) (g.D.VkDevice.faults c.take_steps-end.new.sys.device)

@@ -3,87 +3,14 @@ use Rattle.std.proofs.Common.{◌∙◌, sym, subst, refl, map}
 use Rattle.std.specs.Option.{option_map}
 use Rattle.std.specs.Prelude.{string_bytes}
 use Rattle.trace_text.specs.Seen.{seen}
+use Rattle.verdicts.specs.declared.rules.Verdict.TheVariants.{Clean}
 use Rattle.trace_runner.specs.Report.{IsReport, IsWritten, IsUnrun, left_by}
 use Rattle.trace_runner.proofs.Concluding.{reported, refused_of, unrun_meant, complete_of}
 use Rattle.trace_runner.proofs.runner.simulate.Goals as goal
 
 pub returns-clause-report : goal.returns-clause-report
 returns-clause-report g c =
-    subst (λ d. IsReport (record {
-      words = map string_bytes c.args.words.now;
-      told = g.S.Source.left c.args.source.now;
-      source = (g.S.Source.faults c.args.source.now, g.S.Source.faults c.ran-ended.new.source);
-    }) (g.K.Sink.faults c.args.sink.now, g.K.Sink.faults c.write_output-status.new.sink) (g.K.Sink.held c.args.sink.now) (g.K.Sink.held c.write_output-status.new.sink) (λ f. record {
-      faults = (g.D.VkDevice.faults c.args.device, g.D.VkDevice.faults d);
-      rest = (g.D.VkDevice.rest_of c.args.device, g.D.VkDevice.rest_of d);
-      choices = c.report_of.result.choices.items;
-      taken = c.report_of.result.taken.items;
-      history = c.report_of.result.history.items;
-      fences = f;
-      device = g.D.VkDevice.state d;
-      offered = g.D.VkDevice.offered d;
-      plan = g.D.VkDevice.plan_of d;
-    }) c.report_of.result.status) (sym c.report_of.ensures.device)
-    (subst (λ cs. IsReport (record {
-      words = map string_bytes c.args.words.now;
-      told = g.S.Source.left c.args.source.now;
-      source = (g.S.Source.faults c.args.source.now, g.S.Source.faults c.ran-ended.new.source);
-    }) (g.K.Sink.faults c.args.sink.now, g.K.Sink.faults c.write_output-status.new.sink) (g.K.Sink.held c.args.sink.now) (g.K.Sink.held c.write_output-status.new.sink) (λ f. record {
-      faults = (g.D.VkDevice.faults c.args.device, g.D.VkDevice.faults c.ran-ended.result.device);
-      rest = (g.D.VkDevice.rest_of c.args.device, g.D.VkDevice.rest_of c.ran-ended.result.device);
-      choices = cs;
-      taken = c.report_of.result.taken.items;
-      history = c.report_of.result.history.items;
-      fences = f;
-      device = g.D.VkDevice.state c.ran-ended.result.device;
-      offered = g.D.VkDevice.offered c.ran-ended.result.device;
-      plan = g.D.VkDevice.plan_of c.ran-ended.result.device;
-    }) c.report_of.result.status) (sym c.report_of.ensures.choices)
-    (subst (λ ks. IsReport (record {
-      words = map string_bytes c.args.words.now;
-      told = g.S.Source.left c.args.source.now;
-      source = (g.S.Source.faults c.args.source.now, g.S.Source.faults c.ran-ended.new.source);
-    }) (g.K.Sink.faults c.args.sink.now, g.K.Sink.faults c.write_output-status.new.sink) (g.K.Sink.held c.args.sink.now) (g.K.Sink.held c.write_output-status.new.sink) (λ f. record {
-      faults = (g.D.VkDevice.faults c.args.device, g.D.VkDevice.faults c.ran-ended.result.device);
-      rest = (g.D.VkDevice.rest_of c.args.device, g.D.VkDevice.rest_of c.ran-ended.result.device);
-      choices = c.ran-ended.result.log.choices.items;
-      taken = ks;
-      history = c.report_of.result.history.items;
-      fences = f;
-      device = g.D.VkDevice.state c.ran-ended.result.device;
-      offered = g.D.VkDevice.offered c.ran-ended.result.device;
-      plan = g.D.VkDevice.plan_of c.ran-ended.result.device;
-    }) c.report_of.result.status) (sym c.report_of.ensures.taken)
-    (subst (λ h. IsReport (record {
-      words = map string_bytes c.args.words.now;
-      told = g.S.Source.left c.args.source.now;
-      source = (g.S.Source.faults c.args.source.now, g.S.Source.faults c.ran-ended.new.source);
-    }) (g.K.Sink.faults c.args.sink.now, g.K.Sink.faults c.write_output-status.new.sink) (g.K.Sink.held c.args.sink.now) (g.K.Sink.held c.write_output-status.new.sink) (λ f. record {
-      faults = (g.D.VkDevice.faults c.args.device, g.D.VkDevice.faults c.ran-ended.result.device);
-      rest = (g.D.VkDevice.rest_of c.args.device, g.D.VkDevice.rest_of c.ran-ended.result.device);
-      choices = c.ran-ended.result.log.choices.items;
-      taken = c.ran-ended.result.log.taken.items;
-      history = h;
-      fences = f;
-      device = g.D.VkDevice.state c.ran-ended.result.device;
-      offered = g.D.VkDevice.offered c.ran-ended.result.device;
-      plan = g.D.VkDevice.plan_of c.ran-ended.result.device;
-    }) c.report_of.result.status) (sym c.report_of.ensures.history)
-    (subst (λ s. IsReport (record {
-      words = map string_bytes c.args.words.now;
-      told = g.S.Source.left c.args.source.now;
-      source = (g.S.Source.faults c.args.source.now, g.S.Source.faults c.ran-ended.new.source);
-    }) (g.K.Sink.faults c.args.sink.now, g.K.Sink.faults c.write_output-status.new.sink) (g.K.Sink.held c.args.sink.now) (g.K.Sink.held c.write_output-status.new.sink) (λ f. record {
-      faults = (g.D.VkDevice.faults c.args.device, g.D.VkDevice.faults c.ran-ended.result.device);
-      rest = (g.D.VkDevice.rest_of c.args.device, g.D.VkDevice.rest_of c.ran-ended.result.device);
-      choices = c.ran-ended.result.log.choices.items;
-      taken = c.ran-ended.result.log.taken.items;
-      history = c.ran-ended.result.outcome.history;
-      fences = f;
-      device = g.D.VkDevice.state c.ran-ended.result.device;
-      offered = g.D.VkDevice.offered c.ran-ended.result.device;
-      plan = g.D.VkDevice.plan_of c.ran-ended.result.device;
-    }) s) (sym c.report_of.ensures.status)
+    rw (c.report_of.ensures.device, c.report_of.ensures.choices, c.report_of.ensures.taken, c.report_of.ensures.history, c.report_of.ensures.status, c.report_of.ensures.verdict)
     (reported (record {
       words = map string_bytes c.args.words.now;
       told = g.S.Source.left c.args.source.now;
@@ -91,7 +18,7 @@ returns-clause-report g c =
     }) (g.K.Sink.faults c.args.sink.now, g.K.Sink.faults c.write_output-status.new.sink) (g.K.Sink.held c.args.sink.now) (g.K.Sink.held c.write_output-status.new.sink) (option_map seen c.ran-ended.result.trace)
     (left_by c.ran-ended.result.log (g.D.VkDevice.faults c.args.device, g.D.VkDevice.faults c.ran-ended.result.device) (g.D.VkDevice.rest_of c.args.device, g.D.VkDevice.rest_of c.ran-ended.result.device) (g.D.VkDevice.offered c.ran-ended.result.device) (g.D.VkDevice.plan_of c.ran-ended.result.device) (g.D.VkDevice.state c.ran-ended.result.device) c.ran-ended.result.outcome) c.ran-ended.result.outcome c.write_output-status.result
     c.ran-ended.ensures.says refl refl c.ran-ended.ensures.shown c.ran-ended.ensures.refused
-    (subst (λ t. IsWritten (g.K.Sink.faults c.args.sink.now, g.K.Sink.faults c.write_output-status.new.sink) (g.K.Sink.held c.args.sink.now) (g.K.Sink.held c.write_output-status.new.sink) (option_map seen t) c.ran-ended.result.outcome c.write_output-status.result) c.as_ref.ensures.value c.write_output-status.ensures))))))
+    (subst (λ t. IsWritten (g.K.Sink.faults c.args.sink.now, g.K.Sink.faults c.write_output-status.new.sink) (g.K.Sink.held c.args.sink.now) (g.K.Sink.held c.write_output-status.new.sink) (option_map seen t) c.ran-ended.result.outcome c.write_output-status.result) c.as_ref.ensures.value c.write_output-status.ensures))
 
 pub returns-clause-refused : goal.returns-clause-refused
 returns-clause-refused g c = refused_of (record {

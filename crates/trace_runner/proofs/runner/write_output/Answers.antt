@@ -2,7 +2,7 @@
 use Rattle.std.proofs.Common.{◌∙◌, subst, refl, inl, inr}
 use Rattle.std.specs.Option.{option_copied, option_map}
 use Rattle.trace_text.specs.Seen.{seen}
-use Rattle.trace_text.specs.declared.status.Status.TheVariants as status
+use Rattle.run_text.specs.declared.status.Status.TheVariants as status
 use Rattle.trace_runner.specs.Report.{Writes}
 use Rattle.trace_runner.proofs.runner.write_output.Goals as goal
 

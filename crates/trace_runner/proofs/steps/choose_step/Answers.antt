@@ -1,6 +1,7 @@
 -- The step is the one that the choice names.
 use Rattle.std.proofs.Common.{◌≡◌, ◌%◌, ◌∙◌, ap, subst, ◌∷◌, ◌++◌, [], Some}
 use Rattle.std.specs.List.{slice_get}
+use Rattle.verdicts.specs.declared.rules.Verdict.TheVariants.{Clean}
 use Rattle.sys_core.specs.Steps.{enabled_of}
 use Rattle.sys_core.proofs.NthStep.{any_step}
 use Rattle.trace_runner.proofs.steps.choose_step.Goals as goal
@@ -20,7 +21,7 @@ returns-clause-took g c = record {
     step = c.kth-step.result;
     some = c.requires.some;
     chosen =
-        subst (λ n. slice_get (enabled_of c.args.sys.now.world c.args.sys.now.history (g.D.VkDevice.state c.args.sys.now.device) (g.D.VkDevice.offered c.args.sys.now.device))
+        subst (λ n. slice_get (enabled_of c.args.sys.now.world c.args.sys.now.history Clean (g.D.VkDevice.state c.args.sys.now.device) (g.D.VkDevice.offered c.args.sys.now.device))
         (c.in_ok-choice.choice % n) ≡ Some c.kth-step.result) c.enabled.ensures.count c.kth-step.ensures;
     goes = c.in_ok-take_step.ensures.taken.goes;
   };

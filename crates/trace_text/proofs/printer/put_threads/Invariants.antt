@@ -1,5 +1,5 @@
 use Rattle.std.proofs.Common.{◌≡◌, ◌++◌, drop, flat_map}
-use Rattle.trace_text.specs.Formed.{item_text}
+use Rattle.trace_lines.specs.Formed.{item_text}
 use Rattle.trace_text.specs.Items.{thread_items}
 use Rattle.trace_text.proofs.printer.put_threads.Given as goal
 

@@ -12,5 +12,5 @@ complete_work-requires-clause-numbers c =
     (sym (oldest_sized (length c.args.self.now.queues) (length c.args.self.now.threads) c.args.self.now.pending c.args.queue c.in-Some.work c.requires.sized.of_pending (sym c.in-Some.ensures.first)).queues_are)
     c.requires.queue
 
-pub returns-in-None : goal.returns-in-None
-returns-in-None c = none_completes c.args.self.now c.args.queue c.take_work.new.pending c.in-None.ensures.oldest c.in-None.ensures.rest
+pub returns-in-None-clause-clocks : goal.returns-in-None-clause-clocks
+returns-in-None-clause-clocks c = none_completes c.args.self.now c.args.queue c.take_work.new.pending c.in-None.ensures.oldest c.in-None.ensures.rest

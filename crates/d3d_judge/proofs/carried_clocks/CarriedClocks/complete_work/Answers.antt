@@ -9,6 +9,6 @@ set_clock-requires-clause-alike c =
     subst (λ y. Each (λ d. SameSize d y) c.args.self.now.queues) (sym c.completing_clock-clock.ensures)
     (alike_completing c.args.self.now.queues c.args.work.clock c.args.queue c.next_number-number.result c.requires.queue c.requires.alike c.requires.numbers)
 
-pub returns : goal.returns
-returns c = worked_is c.args.self.now c.args.queue c.next_number-number.result c.args.work c.completing_clock-clock.result c.set_op.new.self c.set_clock.new.queues c.apply.new.updates
+pub returns-clause-clocks : goal.returns-clause-clocks
+returns-clause-clocks c = worked_is c.args.self.now c.args.queue c.next_number-number.result c.args.work c.completing_clock-clock.result c.set_op.new.self c.set_clock.new.queues c.apply.new.updates
     c.next_number-number.ensures c.completing_clock-clock.ensures c.set_op.ensures c.set_clock.ensures c.apply.ensures

@@ -17,7 +17,7 @@ returns-clause-whole g c =
     c.device_step-taken.ensures.same c.device_step-taken.ensures.same_state
 
 pub invariant_of-self : goal.invariant_of-self
-invariant_of-self g c = record { keeps = c.device_step-taken.ensures.keeps; queues = c.self.invariant.queues; whole = returns-clause-whole g c; counted = c.count_steps-self-inside.ensures.count; none_at_rest = c.count_steps-self-inside.ensures.none_at_rest }
+invariant_of-self g c = record { keeps = c.settle-self-inside.ensures.keeps; queues = c.self.invariant.queues; whole = returns-clause-whole g c; counted = c.settle-self-inside.ensures.count; none_at_rest = c.settle-self-inside.ensures.none_at_rest }
 
 pub returns-clause-taken : goal.returns-clause-taken
 returns-clause-taken g c =

@@ -20,7 +20,7 @@ returns-clause-whole g c =
     c.thread_step-taken.ensures.same c.thread_step-taken.ensures.same_state
 
 pub invariant_of-self : goal.invariant_of-self
-invariant_of-self g c = record { keeps = c.thread_step-taken.ensures.keeps; queues = c.self.invariant.queues; whole = returns-clause-whole g c; counted = c.count_steps-self-inside.ensures.count; none_at_rest = c.count_steps-self-inside.ensures.none_at_rest }
+invariant_of-self g c = record { keeps = c.settle-self-inside.ensures.keeps; queues = c.self.invariant.queues; whole = returns-clause-whole g c; counted = c.settle-self-inside.ensures.count; none_at_rest = c.settle-self-inside.ensures.none_at_rest }
 
 pub returns-clause-taken : goal.returns-clause-taken
 returns-clause-taken g c =
@@ -28,7 +28,7 @@ returns-clause-taken g c =
     (stepping.taken g.D.VkDevice.state g.D.VkDevice.plan_of c.self.inside.world c.self.inside.history.items c.self.inside.parts c.self.inside.device c.self.invariant.keeps
     g.D.VkDevice.rest_of (step.Thread c.args.thread.0) c.thread_step-taken.new.history.items c.thread_step-taken.new.device c.thread_step-taken.result
     (stepping.is_thread_step g.D.VkDevice.state g.D.VkDevice.plan_of c.self.inside.world c.self.inside.history.items c.self.inside.parts c.self.inside.device c.self.invariant.keeps
-    c.args.thread.0 c.thread_step-taken.new.history.items c.thread_step-taken.new.device c.thread_step-taken.result c.thread_step-taken.ensures.event c.thread_step-taken.ensures.state)
+    c.args.thread.0 c.thread_step-taken.new.history.items c.thread_step-taken.new.device c.thread_step-taken.result c.thread_step-taken.ensures.event c.thread_step-taken.ensures.state c.thread_step-taken.ensures.keeps.consistent.run)
     (stepping.none_used g.D.VkDevice.state g.D.VkDevice.plan_of c.self.inside.world c.self.inside.history.items c.self.inside.parts c.self.inside.device c.self.invariant.keeps
     (step.Thread c.args.thread.0) c.thread_step-taken.result (g.D.VkDevice.rest_of c.self.inside.device) (g.D.VkDevice.rest_of c.thread_step-taken.new.device) c.thread_step-taken.ensures.rest refl)
     (stepping.thread_goes g.D.VkDevice.state g.D.VkDevice.plan_of c.self.inside.world c.self.inside.history.items c.self.inside.parts c.self.inside.device c.self.invariant.keeps
@@ -39,7 +39,5 @@ pub returns-clause-refusals : goal.returns-clause-refusals
 returns-clause-refusals g c =
     refusing.refusals g.D.VkDevice.state g.D.VkDevice.rest_of c.args.thread.0 c.args.self.now
     (record { world = c.self.inside.world; history = c.thread_step-taken.new.history.items; device = c.thread_step-taken.new.device }) c.thread_step-taken.result
-    (subst (λ v. IsSystem v.world v.history (g.D.VkDevice.state v.device)) c.self.view_is
-    (record { world = c.self.invariant.keeps.consistent.world; queues = c.self.invariant.queues; run = c.self.invariant.keeps.consistent.run; device = c.self.invariant.keeps.consistent.device }))
     (record { world = c.thread_step-taken.ensures.keeps.consistent.world; queues = c.self.invariant.queues; run = c.thread_step-taken.ensures.keeps.consistent.run; device = c.thread_step-taken.ensures.keeps.consistent.device })
     (returns-clause-taken g c)

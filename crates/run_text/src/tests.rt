@@ -1,0 +1,4 @@
+//! Worked rows: the output of runs, with each status and of several threads.
+
+mod outputs;
+mod statuses;

@@ -1,6 +1,0 @@
-use Rattle.std.proofs.Common.{◌≡◌, ◌++◌, drop}
-use Rattle.trace_text.specs.Output.{refused_from}
-use Rattle.trace_text.proofs.outcome.refused_of.Given as goal
-
-abbrev pub invariant-loop-at : goal.invariant-loop-at
-invariant-loop-at l = l.places ++ refused_from l.at (drop l.at l.declared) ≡ refused_from 0 l.declared
