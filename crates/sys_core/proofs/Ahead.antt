@@ -1,4 +1,4 @@
--- The device's words with what it has yet to do stay the machine's memory with what it has yet to complete.
+-- Words with what the device has yet to do stay the machine's memory with what it has yet to complete.
 use Rattle.std.proofs.Common.{ℕ, zero, suc, ◌≡◌, ◌<◌, ◌≤◌, ◌-◌, ◌∙◌, sym, ap, refl, arith, List, [], ◌∷◌, ◌++◌, length, drop, map, replicate, Some, None, Option, Bool, true, false, slice_get, get_or, append-nil}
 use Rattle.std.specs.List.{list_all}
 use Rattle.std.specs.Prelude.{nat_lt, if◌then◌else◌}
@@ -27,8 +27,9 @@ use Rattle.vk_port.specs.declared.lanes.Running.{Running}
 use Rattle.vk_port.specs.After.{lane_after_submit}
 use Rattle.vk_port.specs.Enabled.{unmarked}
 use Rattle.vk_port.specs.Journal.{of_queue}
-use Rattle.vk_port.specs.Valid.{IsLane, Matches, batch_of}
-use Rattle.vk_port.specs.VkState.{VkState, lane_of, no_lane, first_words}
+use Rattle.vk_port.specs.Words.{first_words}
+use Rattle.vk_port.specs.Valid.{IsLane, batch_of}
+use Rattle.vk_port.specs.VkState.{VkState, lane_of, no_lane}
 use Rattle.vk_port.specs.VkState as vulkan
 use Rattle.vk_port.proofs.Lists.{item_at}
 use Rattle.sys_core.specs.Lowering.{plan_buffers, plan_of_world, startup, opening_batches}
@@ -36,11 +37,10 @@ use Rattle.sys_core.specs.Memory.{spread, memory_of}
 use Rattle.sys_core.specs.Stands.{StandsAt}
 use Rattle.sys_core.specs.Steps.{submitted_of, after_submits}
 use Rattle.sys_core.specs.Consistent.{IsDevice}
-use Rattle.sys_core.specs.Ahead.{run_commands, batches_undone, memory_ahead, held_commands, IsAhead, IsQuiet}
+use Rattle.sys_core.specs.Ahead.{run_commands, batches_undone, memory_ahead, held_commands, AreAhead, IsQuiet}
 use Rattle.sys_core.proofs.Standing.{submitted_is}
 use Rattle.sys_core.proofs.Undone.{run_append, ahead_append}
 use Rattle.sys_core.proofs.Effect.{run_length, held_is_effect}
-use Rattle.sys_core.proofs.Spread.{as_many}
 use Rattle.sys_core.proofs.Startup.{begins_of}
 
 -- a fact of all holds of those past the first
@@ -50,15 +50,19 @@ all_drop p (suc n) [] all = refl
 all_drop p (suc n) (x ∷ xs) all = all_drop p n xs (and_both (p x) (list_all p xs) all).1
 
 -- the claim, with the commands of the operations that are not submitted in place of what they do
-pub ahead_in_commands : (w : World) (h : List Event) (v : VkState) → Matches (plan_of_world w) v → IsAhead w h v →
-    memory_of w (run_commands (batches_undone (lane_of v 0).batches ++ held_commands w (drop (submitted_of v 0) (operations w h 0))) v.words)
+pub ahead_in_commands : (w : World) (h : List Event) (v : VkState) (words : List (List ℕ)) → length words ≡ length (plan_buffers w.resources) → AreAhead w h v words →
+    memory_of w (run_commands (batches_undone (lane_of v 0).batches ++ held_commands w (drop (submitted_of v 0) (operations w h 0))) words)
     ≡ memory_ahead (drop (counter h 0) (operations w h 0)) (state_after w h).memory
-ahead_in_commands w h v objects is =
+ahead_in_commands w h v words long is =
     let us : List VkCommand = batches_undone (lane_of v 0).batches in
     let os : List Operation = drop (submitted_of v 0) (operations w h 0) in
     let good : list_all (is_good_operation w) os ≡ true = all_drop (is_good_operation w) (submitted_of v 0) (operations w h 0) (operations_are_good w h 0) in
-    ap (memory_of w) (run_append us (held_commands w os) v.words)
-    ∙ held_is_effect w os (run_commands us v.words) (run_length us v.words ∙ as_many w v objects) good ∙ is.ahead
+    ap (memory_of w) (run_append us (held_commands w os) words)
+    ∙ held_is_effect w os (run_commands us words) (run_length us words ∙ long) good ∙ is.ahead
+
+-- zeros everywhere
+abbrev pub first_buffers : World → List (List ℕ)
+first_buffers w = map first_words (plan_buffers w.resources)
 
 first_memory : (rs : List (Option Resource)) → spread rs (map first_words (plan_buffers rs)) ≡ map zeros rs
 first_memory [] = refl
@@ -74,15 +78,15 @@ no_lanes zero = refl
 no_lanes (suc n) = refl
 
 -- the start
-pub ahead_first : (w : World) → IsAhead w [] (after_submits (vulkan.first_state (plan_of_world w)) (opening_batches w))
+pub ahead_first : (w : World) → AreAhead w [] (after_submits (vulkan.first_state (plan_of_world w)) (opening_batches w)) (first_buffers w)
 ahead_first w = by_test (nat_lt 0 (length w.queues))
   where
-    by_test : (t : Bool) → IsAhead w [] (after_submits (vulkan.first_state (plan_of_world w)) (if t then startup w ∷ [] else []))
+    by_test : (t : Bool) → AreAhead w [] (after_submits (vulkan.first_state (plan_of_world w)) (if t then startup w ∷ [] else [])) (first_buffers w)
     by_test true = record {
-      ahead = ap (λ cs. memory_of w (run_commands cs (map first_words (plan_buffers w.resources)))) (nothing_to_do (length w.queues) (startup w) refl) ∙ first_memory w.resources;
+      ahead = ap (λ cs. memory_of w (run_commands cs (first_buffers w))) (nothing_to_do (length w.queues) (startup w) refl) ∙ first_memory w.resources;
     }
     by_test false = record {
-      ahead = ap (λ cs. memory_of w (run_commands cs (map first_words (plan_buffers w.resources)))) (no_lanes (length w.queues)) ∙ first_memory w.resources;
+      ahead = ap (λ cs. memory_of w (run_commands cs (first_buffers w))) (no_lanes (length w.queues)) ∙ first_memory w.resources;
     }
 
 -- what is submitted is called, and what is complete is submitted
@@ -121,20 +125,20 @@ completed_memory w s (o ∷ os) is =
     completed_memory w (after w s completion) os called ∙ ap (λ y. memory_ahead os (memory_after_operation s.memory y)) head
 
 -- the claim, with the memory after the history and the completion of each called operation that is not complete
-pub ahead_in_completions : (w : World) (h : List Event) (v : VkState) → IsRunButWords w h → Matches (plan_of_world w) v → 0 < length w.queues → IsAhead w h v →
-    memory_of w (run_commands (batches_undone (lane_of v 0).batches ++ held_commands w (drop (submitted_of v 0) (operations w h 0))) v.words)
+pub ahead_in_completions : (w : World) (h : List Event) (v : VkState) (words : List (List ℕ)) → IsRunButWords w h → length words ≡ length (plan_buffers w.resources) → 0 < length w.queues → AreAhead w h v words →
+    memory_of w (run_commands (batches_undone (lane_of v 0).batches ++ held_commands w (drop (submitted_of v 0) (operations w h 0))) words)
     ≡ (state_after w (h ++ replicate (length (drop (counter h 0) (operations w h 0))) completion)).memory
-ahead_in_completions w h v run objects some is =
+ahead_in_completions w h v words run long some is =
     let os : List Operation = drop (counter h 0) (operations w h 0) in
     let first : (x : ListType) × (slice_get w.queues 0 ≡ Some x) = item_at w.queues 0 some in
     let holds : HoldsRest (state_after w h).desk 0 (counter h 0) (operations w h 0) = called_after SameButWords w 0 h first.0 first.1 run in
-    ahead_in_commands w h v objects is ∙ sym (completed_memory w (state_after w h) os holds.rest)
+    ahead_in_commands w h v words long is ∙ sym (completed_memory w (state_after w h) os holds.rest)
     ∙ ap (λ (s : State). s.memory) (sym (after_both w (first_state w) h (replicate (length os) completion)))
 
 -- an event that completes nothing, where words and memory change alike
 pub ahead_event : (w : World) (h : List Event) (e : Event) (v : VkState) (words : List (List ℕ)) → IsWithin w h v → completions_by 0 e ≡ 0 →
     memory_ahead (drop (submitted_of v 0) (operations w h 0)) (memory_of w (run_commands (batches_undone (lane_of v 0).batches) words))
-    ≡ memory_ahead (drop (counter h 0) (operations w h 0)) (memory_after w (state_after w h) e) → IsAhead w (h ++ e ∷ []) (record v { words = words })
+    ≡ memory_ahead (drop (counter h 0) (operations w h 0)) (memory_after w (state_after w h) e) → AreAhead w (h ++ e ∷ []) v words
 ahead_event w h e v words within none same =
     let os : List Operation = operations w h 0 in
     let by : List Operation = called_by w (state_after w h).desk 0 e in
@@ -154,8 +158,8 @@ ahead_event w h e v words within none same =
     }
 
 -- a thread that wakes
-pub ahead_awake : (w : World) (h : List Event) (v : VkState) (t : ThreadId) → IsWithin w h v → IsAhead w h v → IsAhead w (h ++ event.Awake t ∷ []) v
-ahead_awake w h v t within is = ahead_event w h (event.Awake t) v v.words within refl is.ahead
+pub ahead_awake : (w : World) (h : List Event) (v : VkState) (words : List (List ℕ)) (t : ThreadId) → IsWithin w h v → AreAhead w h v words → AreAhead w (h ++ event.Awake t ∷ []) v words
+ahead_awake w h v words t within is = ahead_event w h (event.Awake t) v words within refl is.ahead
 
 -- nothing is left to do: no command, no operation that is not submitted, none that is not complete
 pub record IsIdle (w : World) (h : List Event) (v : VkState) : Type 0 where
@@ -202,9 +206,9 @@ quiet_is_idle w h v run is some quiet =
       called = called;
     }
 
--- where nothing is left to do, the device's words are the machine's memory
-pub idle_words : (w : World) (h : List Event) (v : VkState) → IsAhead w h v → IsIdle w h v → memory_of w v.words ≡ (state_after w h).memory
-idle_words w h v is idle =
-    ap (λ cs. memory_of w (run_commands cs v.words)) (sym idle.undone)
-    ∙ ap (λ os. memory_ahead os (memory_of w (run_commands (batches_undone (lane_of v 0).batches) v.words))) (sym idle.held)
+-- where nothing is left to do, words that are ahead are the machine's memory
+pub idle_words : (w : World) (h : List Event) (v : VkState) (words : List (List ℕ)) → AreAhead w h v words → IsIdle w h v → memory_of w words ≡ (state_after w h).memory
+idle_words w h v words is idle =
+    ap (λ cs. memory_of w (run_commands cs words)) (sym idle.undone)
+    ∙ ap (λ os. memory_ahead os (memory_of w (run_commands (batches_undone (lane_of v 0).batches) words))) (sym idle.held)
     ∙ is.ahead ∙ ap (λ os. memory_ahead os (state_after w h).memory) idle.called

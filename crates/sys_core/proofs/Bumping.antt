@@ -70,7 +70,7 @@ pub record IsFirst (w : World) (v : VkState) (q n : ℕ) (b : Batch) : Type 0 wh
   pub number : b.number ≡ n
   pub sets : sets_of (lane_of v q) ≡ b.sets
 
-first_is : (w : World) (v : VkState) (q n : ℕ) → IsValid v → IsBump v q n → (b : Batch) × IsFirst w v q n b
+pub first_is : (w : World) (v : VkState) (q n : ℕ) → IsValid v → IsBump v q n → (b : Batch) × IsFirst w v q n b
 first_is w v q n valid bump =
     let lane_is : lane_of v q ≡ bump.lane = get_or_from_slice_get v.lanes q bump.lane no_lane bump.there in
     let lane : IsLane (of_queue q v.journal) (lane_of v q) = valid.lanes q in
@@ -104,7 +104,7 @@ pub record IsEnding (w : World) (h : List Event) (v : VkState) (q n : ℕ) (o : 
   pub less : n - 1 < submitted_of v q
   pub some : 0 < n
 
-eqb_other : (a b : ℕ) → a ≢ b → (a == b) ≡ false
+pub eqb_other : (a b : ℕ) → a ≢ b → (a == b) ≡ false
 eqb_other a b ne = elim (eqb_tells a b) [ inl same ↦ absurd (ne same.1) | inr other ↦ other.0 ]
 
 -- a batch of another number than 0 stands behind the start-up's
@@ -118,7 +118,7 @@ behind_startup w (suc q) n k rest b number some at =
     ap (slice_get (of_queue (suc q) rest)) (sym k_is)
     ∙ ap (λ t. slice_get (cond t (startup w ∷ of_queue (suc q) rest) (of_queue (suc q) rest)) k) (sym other) ∙ at
 
-ending_is : (w : World) (h : List Event) (v : VkState) (q n : ℕ) (b : Batch) → IsDevice w h v → q < length w.queues → IsFirst w v q n b → 0 < n →
+pub ending_is : (w : World) (h : List Event) (v : VkState) (q n : ℕ) (b : Batch) → IsDevice w h v → q < length w.queues → IsFirst w v q n b → 0 < n →
     (o : Operation) × IsEnding w h v q n o
 ending_is w h v q n b device within first some =
     let stands : Stands w h v = device.stands in
@@ -195,8 +195,8 @@ lane_length f q p v keeps = by_lanes q p v.lanes
 -- the device after a step that ends no operation's batch
 device_goes : (w : World) (h : List Event) (v u : VkState) → IsDevice w h v → IsValid u → Matches (plan_of_world w) u → u.journal ≡ v.journal →
     ((q : ℕ) → q < length w.queues → counter_of u q ≡ counter_of v q) → ((q : ℕ) → q < length w.queues → (first_number q + finished_of u q) - 1 ≡ (first_number q + finished_of v q) - 1) →
-    (0 < finished_of u 0 → counter_of u (length w.queues) ≡ 1) → IsDevice w h u
-device_goes w h v u is valid objects journal counters finished opening = record {
+    (0 < finished_of u 0 → counter_of u (length w.queues) ≡ 1) → (finished_of u 0 ≡ 0 → counter_of u (length w.queues) ≡ 0) → IsDevice w h u
+device_goes w h v u is valid objects journal counters finished opening unopened = record {
   valid = valid;
   objects = objects;
   stands = record {
@@ -209,6 +209,7 @@ device_goes w h v u is valid objects journal counters finished opening = record 
   named = ap (list_all (λ b. nat_lt b.queue (length w.queues))) journal ∙ is.named;
   finished = λ q within. is.finished q within ∙ sym (finished q within);
   opening = opening;
+  unopened = unopened;
 }
 
 -- the held operations look at the device's journal alone
@@ -237,7 +238,8 @@ consistent_pass w h lists seats fences held v q n is enabled =
     consistent_goes w h lists seats fences held v u is refl
     (device_goes w h v u is.device (step_valid v (Passed q n) enabled is.device.valid) (step_matches (plan_of_world w) v (Passed q n) is.device.objects) refl (λ p within. refl)
     (λ p within. ap (λ k. (first_number p + k) - 1) (same_batches v u p refl (λ i. lane_length lane_after_pass q i v (λ l. refl))))
-    (λ some. is.device.opening (omega (arith, some, same_batches v u 0 refl (λ i. lane_length lane_after_pass q i v (λ l. refl))))))
+    (λ some. is.device.opening (omega (arith, some, same_batches v u 0 refl (λ i. lane_length lane_after_pass q i v (λ l. refl)))))
+    (λ none. is.device.unopened (omega (arith, none, same_batches v u 0 refl (λ i. lane_length lane_after_pass q i v (λ l. refl))))))
 
 pub consistent_run : (w : World) (h : List Event) (lists : List Listed) (seats : List Seat) (fences : List (List ℕ)) (held : List Queued) (v : VkState) (q n k : ℕ) →
     IsConsistent w h lists seats fences held v → IsEnabled v (Ran q n k) → IsConsistent w h lists seats fences held (after_step v (Ran q n k))
@@ -246,7 +248,8 @@ consistent_run w h lists seats fences held v q n k is enabled =
     consistent_goes w h lists seats fences held v u is refl
     (device_goes w h v u is.device (step_valid v (Ran q n k) enabled is.device.valid) (step_matches (plan_of_world w) v (Ran q n k) is.device.objects) refl (λ p within. refl)
     (λ p within. ap (λ i. (first_number p + i) - 1) (same_batches v u p refl (λ i. lane_length (lane_after_run n k) q i v (λ l. length_changed (with_done k) l.batches (place_of n l.batches)))))
-    (λ some. is.device.opening (omega (arith, some, same_batches v u 0 refl (λ i. lane_length (lane_after_run n k) q i v (λ l. length_changed (with_done k) l.batches (place_of n l.batches)))))))
+    (λ some. is.device.opening (omega (arith, some, same_batches v u 0 refl (λ i. lane_length (lane_after_run n k) q i v (λ l. length_changed (with_done k) l.batches (place_of n l.batches))))))
+    (λ none. is.device.unopened (omega (arith, none, same_batches v u 0 refl (λ i. lane_length (lane_after_run n k) q i v (λ l. length_changed (with_done k) l.batches (place_of n l.batches)))))))
 
 -- the queue has one more finished batch
 finished_bump : (w : World) (v : VkState) (q n : ℕ) (b : Batch) → IsFirst w v q n b → finished_of (after_step v (Bumped q n)) q ≡ finished_of v q + 1
@@ -274,9 +277,18 @@ set_elsewhere (suc i) zero n (t ∷ ts) other = refl
 set_elsewhere (suc i) (suc j) n (t ∷ ts) other = set_elsewhere i j n ts (λ e. other (ap suc e))
 
 -- the batch of number 0 is the first queue's
-number_0 : (q k : ℕ) → first_number q + k ≡ 0 → (q ≡ 0) × (k ≡ 0)
+pub number_0 : (q k : ℕ) → first_number q + k ≡ 0 → (q ≡ 0) × (k ≡ 0)
 number_0 zero k is = (refl, omega (arith, is))
 number_0 (suc q) k is = absurd (omega (arith, ap (λ i. i + k) (first_number_suc q), is))
+
+-- the start-up batch sets the start-up timeline to 1
+pub start_sets : (w : World) (h : List Event) (v : VkState) (b : Batch) → IsDevice w h v → 0 < length w.queues → IsFirst w v 0 0 b → sets_of (lane_of v 0) ≡ (length w.queues, 1) ∷ []
+start_sets w h v b device within first =
+    let none : finished_of v 0 ≡ 0 = (number_0 0 (finished_of v 0) first.finished).1 in
+    let front : slice_get (of_queue 0 v.journal) 0 ≡ Some b = ap (slice_get (of_queue 0 v.journal)) (sym none) ∙ first.at in
+    let b_is : startup w ≡ b =
+    let e : Some (startup w) ≡ Some b = ap (λ (j : List Batch). slice_get (of_queue 0 j) 0) (sym (begins_of w h v device.stands within)) ∙ front in grind arith in
+    first.sets ∙ ap (λ (x : Batch). x.sets) (sym b_is)
 
 -- the end of the start-up batch, which is the first queue's
 start_ends : (w : World) (h : List Event) (lists : List Listed) (seats : List Seat) (fences : List (List ℕ)) (held : List Queued) (v : VkState) (b : Batch) →
@@ -286,10 +298,7 @@ start_ends w h lists seats fences held v b is within enabled first =
     let u : VkState = after_step v (Bumped 0 0) in
     let last : ℕ = length w.queues in
     let none : finished_of v 0 ≡ 0 = (number_0 0 (finished_of v 0) first.finished).1 in
-    let front : slice_get (of_queue 0 v.journal) 0 ≡ Some b = ap (slice_get (of_queue 0 v.journal)) (sym none) ∙ first.at in
-    let b_is : startup w ≡ b =
-    let e : Some (startup w) ≡ Some b = ap (λ (j : List Batch). slice_get (of_queue 0 j) 0) (sym (begins_of w h v is.device.stands within)) ∙ front in grind arith in
-    let sets : sets_of (lane_of v 0) ≡ (last, 1) ∷ [] = first.sets ∙ ap (λ (x : Batch). x.sets) (sym b_is) in
+    let sets : sets_of (lane_of v 0) ≡ (last, 1) ∷ [] = start_sets w h v b is.device within first in
     let counters : (q : ℕ) → q < length w.queues → counter_of u q ≡ counter_of v q =
     λ q inside. ap (λ ss. get_or (after_sets ss v.timelines) q 0) sets ∙ set_elsewhere last q 1 v.timelines (λ e. omega (arith, inside, e)) in
     let one_more : finished_of u 0 ≡ finished_of v 0 + 1 = finished_bump w v 0 0 b first in
@@ -301,7 +310,8 @@ start_ends w h lists seats fences held v b is within enabled first =
     ] in
     consistent_goes w h lists seats fences held v u is refl
     (device_goes w h v u is.device (step_valid v (Bumped 0 0) enabled is.device.valid) (step_matches (plan_of_world w) v (Bumped 0 0) is.device.objects) refl counters finished
-    (λ some. ap (λ ss. get_or (after_sets ss v.timelines) last 0) sets ∙ set_there last 1 v.timelines (omega (arith, is.device.objects.timelines))))
+    (λ some. ap (λ ss. get_or (after_sets ss v.timelines) last 0) sets ∙ set_there last 1 v.timelines (omega (arith, is.device.objects.timelines)))
+    (λ none. absurd (omega (arith, none, one_more))))
 
 pub consistent_start : (w : World) (h : List Event) (lists : List Listed) (seats : List Seat) (fences : List (List ℕ)) (held : List Queued) (v : VkState) (q : ℕ) →
     IsConsistent w h lists seats fences held v → q < length w.queues → IsEnabled v (Bumped q 0) → IsConsistent w h lists seats fences held (after_step v (Bumped q 0))
@@ -419,6 +429,10 @@ device_end w h v q n b o is within first ending valid =
         | inl same ↦
             let number : first_number 0 + finished_of v 0 ≡ n = subst (λ k. first_number k + finished_of v k ≡ n) same.1 first.finished in omega (arith, number, ending.some)
         | inr other ↦ omega (arith, some, finished_elsewhere v q.0 n 0 other.1)
+      ]);
+      unopened = λ none. stays last (λ e. omega (arith, e, within)) ∙ is.unopened (elim (eqb_tells q.0 0) [
+        | inl same ↦ absurd (let e : finished_of (after_step v (Bumped q.0 n)) q.0 ≡ 0 = subst (λ k. finished_of (after_step v (Bumped q.0 n)) k ≡ 0) (sym same.1) none in omega (arith, e, finished_bump w v q.0 n b first))
+        | inr other ↦ sym (finished_elsewhere v q.0 n 0 other.1) ∙ none
       ]);
     }
 

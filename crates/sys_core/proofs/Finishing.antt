@@ -17,6 +17,7 @@ use Rattle.d3d_machine.proofs.Operations.{HoldsRest, called_after}
 use Rattle.d3d_machine.proofs.Shape.{run_has_shape}
 use Rattle.vk_types.specs.declared.plan.DevicePlan.{DevicePlan}
 use Rattle.vk_port.specs.Journal.{of_queue}
+use Rattle.vk_sync_rules.specs.VkState.{VkState as Machine}
 use Rattle.vk_port.specs.VkState.{VkState, counter_of}
 use Rattle.vk_port.proofs.Lists.{item_at}
 use Rattle.sys_core.specs.declared.parts.Armed.{Armed}
@@ -91,7 +92,7 @@ equal_tests a b same = elim (eqb_tells a b) [
   | inr other ↦ absurd (omega (arith, same, other.1))
 ]
 
-module _ {D : Type 0} (state : D → VkState) (plan_of : D → Option DevicePlan) (w : World) (h : List Event) (p : Parts) (d : D) (keeps : Keeps state plan_of w h p d) where
+module _ {D : Type 0} (state : D → VkState) (machine : D → Machine) (plan_of : D → Option DevicePlan) (w : World) (h : List Event) (p : Parts) (d : D) (keeps : Keeps state machine plan_of w h p d) where
   abbrev desk : Desk
   desk = (state_after w h).desk
 
@@ -104,7 +105,7 @@ module _ {D : Type 0} (state : D → VkState) (plan_of : D → Option DevicePlan
       record { made = ap (λ (x : Place). x.made) place ∙ sym (ap length script); waits = ap (λ (x : Place). x.waits) place }
 
   seat_at : (t : ℕ) → t < length w.scripts → (s : Seat) × (slice_get p.seats t ≡ Some s)
-  seat_at t within = item_at p.seats t (omega (arith, within, nth.seats_count state plan_of w h p d keeps))
+  seat_at t within = item_at p.seats t (omega (arith, within, nth.seats_count state machine plan_of w h p d keeps))
 
   thread_ended : (t : ℕ) → t < length w.scripts → has_ended_at w p.seats t ≡ true → IsEndedPlace (length (script_of w t)) (place_of desk t)
   thread_ended t within ended =
@@ -133,7 +134,7 @@ module _ {D : Type 0} (state : D → VkState) (plan_of : D → Option DevicePlan
 
   queue_held : (q : ℕ) → q < length w.queues → IsQueueHeld q
   queue_held q within =
-      let found : (x : Held) × (slice_get p.held q ≡ Some x) = item_at p.held q (omega (arith, within, nth.held_count state plan_of w h p d keeps)) in
+      let found : (x : Held) × (slice_get p.held q ≡ Some x) = item_at p.held q (omega (arith, within, nth.held_count state machine plan_of w h p d keeps)) in
       let is : IsHeld w h (state d) q (queued found.0) =
       keeps.consistent.held_are.each q (queued found.0) (slice_get-map queued p.held q ∙ ap (option_map queued) found.1) in
       let type : (x : ListType) × (slice_get w.queues q ≡ Some x) = item_at w.queues q within in
@@ -191,7 +192,7 @@ module _ {D : Type 0} (state : D → VkState) (plan_of : D → Option DevicePlan
         waits = λ t. (ended t).waits;
         queues = λ q. elim (cases_lt q (length w.queues)) [
           | inl within ↦
-              queue_empty q within (all_of (is_empty_at p.held (state d)) 0 (length p.held) q queues (omega arith) (omega (arith, within, nth.held_count state plan_of w h p d keeps)))
+              queue_empty q within (all_of (is_empty_at p.held (state d)) 0 (length p.held) q queues (omega arith) (omega (arith, within, nth.held_count state machine plan_of w h p d keeps)))
           | inr past ↦ past_empty q (omega (arith, past))
         ];
       }
@@ -202,8 +203,8 @@ module _ {D : Type 0} (state : D → VkState) (plan_of : D → Option DevicePlan
   pub queues_if : IsFinished w desk → all_from (is_empty_at p.held (state d)) 0 (length p.held) ≡ true
   queues_if finished =
       all_if (is_empty_at p.held (state d)) 0 (length p.held)
-      (λ q from below. empty_queue q (omega (arith, below, nth.held_count state plan_of w h p d keeps)) finished)
+      (λ q from below. empty_queue q (omega (arith, below, nth.held_count state machine plan_of w h p d keeps)) finished)
 
   -- each queue has a timeline
   pub timelines_many : length p.held ≤ length (state d).timelines
-  timelines_many = omega (arith, nth.held_count state plan_of w h p d keeps, keeps.consistent.device.objects.timelines)
+  timelines_many = omega (arith, nth.held_count state machine plan_of w h p d keeps, keeps.consistent.device.objects.timelines)

@@ -8,11 +8,14 @@ pub mod Numbers
 pub mod Startup
 pub mod Inside
 pub mod Serving
+pub mod Replies
 pub mod Buffers
 pub mod Calling
 pub mod Fitting
 pub mod Working
 pub mod Bumping
+pub mod MachineBatches
+pub mod MachineSteps
 pub mod Work
 pub mod Opening
 pub mod WaitSearches
@@ -25,6 +28,7 @@ pub mod Orderly
 pub mod Ahead
 pub mod AheadSteps
 pub mod NoQueue
+pub mod Settling
 pub mod Whole
 pub mod Threading
 pub mod Waiting
@@ -35,6 +39,5 @@ pub mod Beginning
 pub mod NthStep
 pub mod Finishing
 pub mod StepCount
-pub mod ThreadSteps
 pub mod Stepping
 pub mod Refusing

@@ -27,7 +27,7 @@ use Rattle.vk_port.specs.VkState.{VkState, no_lane}
 use Rattle.sys_core.specs.Consistent.{IsDevice}
 use Rattle.sys_core.specs.Memory.{memory_of}
 use Rattle.sys_core.specs.Steps.{submitted_of}
-use Rattle.sys_core.specs.Ahead.{run_commands, batches_undone, memory_ahead, IsAhead, IsQuiet}
+use Rattle.sys_core.specs.Ahead.{run_commands, batches_undone, memory_ahead, AreAhead, IsQuiet}
 use Rattle.sys_core.proofs.Ahead.{drop_past, IsIdle, idle_words, quiet_is_idle}
 
 -- the queue to which a call gives a task is one of the world, where the call names objects of it
@@ -85,19 +85,18 @@ no_queue_idle w h v world run none lanes =
       called = drop_past (counter h 0) (operations w h 0) (omega (arith, ap length os));
     }
 
--- where nothing is left to do, it suffices that the device's words are the machine's memory
-pub idle_ahead : (w : World) (h : List Event) (v : VkState) → IsIdle w h v → memory_of w v.words ≡ (state_after w h).memory → IsAhead w h v
-idle_ahead w h v idle same = record {
-  ahead = ap (λ cs. memory_ahead (drop (submitted_of v 0) (operations w h 0)) (memory_of w (run_commands cs v.words))) idle.undone
-      ∙ ap (λ os. memory_ahead os (memory_of w v.words)) idle.held ∙ same ∙ ap (λ os. memory_ahead os (state_after w h).memory) (sym idle.called);
+-- where nothing is left to do, it suffices that the words are the machine's memory
+pub idle_ahead : (w : World) (h : List Event) (v : VkState) (words : List (List ℕ)) → IsIdle w h v → memory_of w words ≡ (state_after w h).memory → AreAhead w h v words
+idle_ahead w h v words idle same = record {
+  ahead = ap (λ cs. memory_ahead (drop (submitted_of v 0) (operations w h 0)) (memory_of w (run_commands cs words))) idle.undone
+      ∙ ap (λ os. memory_ahead os (memory_of w words)) idle.held ∙ same ∙ ap (λ os. memory_ahead os (state_after w h).memory) (sym idle.called);
 }
 
 -- in a world without queues, an event by which words and memory change alike
 pub no_queue_event : (w : World) (h : List Event) (e : Event) (v : VkState) (words : List (List ℕ)) → IsWorld w → IsRunButWords w (h ++ e ∷ []) →
-    length w.queues ≤ 0 → length v.lanes ≤ 0 → memory_of w words ≡ memory_after w (state_after w h) e → IsAhead w (h ++ e ∷ []) (record v { words = words })
+    length w.queues ≤ 0 → length v.lanes ≤ 0 → memory_of w words ≡ memory_after w (state_after w h) e → AreAhead w (h ++ e ∷ []) v words
 no_queue_event w h e v words world run none lanes same =
-    let u : VkState = record v { words = words } in
-    idle_ahead w (h ++ e ∷ []) u (no_queue_idle w (h ++ e ∷ []) u world run none lanes)
+    idle_ahead w (h ++ e ∷ []) v words (no_queue_idle w (h ++ e ∷ []) v world run none lanes)
     (same ∙ ap (λ (s : State). s.memory) (sym (state_after_append w h e)))
 
 -- where no called operation is incomplete, nothing is left to do, with a queue or without
@@ -108,7 +107,7 @@ is_idle w h v world run device quiet =
       | inr none ↦ no_queue_idle w h v world run none (omega (arith, device.objects.lanes, none))
     ]
 
--- where no called operation is incomplete, the device's words are the machine's memory
-pub quiet_words : (w : World) (h : List Event) (v : VkState) → IsWorld w → IsRunButWords w h → IsDevice w h v → IsAhead w h v → IsQuiet (state_after w h) →
-    memory_of w v.words ≡ (state_after w h).memory
-quiet_words w h v world run device is quiet = idle_words w h v is (is_idle w h v world run device quiet)
+-- where no called operation is incomplete, words that are ahead are the machine's memory
+pub quiet_words : (w : World) (h : List Event) (v : VkState) (words : List (List ℕ)) → IsWorld w → IsRunButWords w h → IsDevice w h v → AreAhead w h v words → IsQuiet (state_after w h) →
+    memory_of w words ≡ (state_after w h).memory
+quiet_words w h v words world run device is quiet = idle_words w h v words is (is_idle w h v world run device quiet)

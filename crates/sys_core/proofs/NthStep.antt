@@ -18,6 +18,7 @@ use Rattle.sys_core.proofs.PastParts.{seats_many}
 use Rattle.vk_types.specs.declared.plan.DevicePlan.{DevicePlan}
 use Rattle.vk_port.specs.Offers.{steps_offered}
 use Rattle.verdicts.specs.declared.rules.Verdict.TheVariants.{Clean}
+use Rattle.vk_sync_rules.specs.VkState.{VkState as Machine}
 use Rattle.vk_port.specs.VkState.{VkState}
 use Rattle.sys_core.specs.declared.parts.Held.{Held}
 use Rattle.sys_core.specs.declared.parts.Parts.{Parts}
@@ -202,7 +203,7 @@ where_few test make a (suc n) = by_test (test a) (where_few test make (a + 1) n)
     by_test true few = omega (arith, few)
     by_test false few = omega (arith, few)
 
-module _ {D : Type 0} (state : D → VkState) (plan_of : D → Option DevicePlan) (w : World) (h : List Event) (p : Parts) (d : D) (keeps : Keeps state plan_of w h p d) where
+module _ {D : Type 0} (state : D → VkState) (machine : D → Machine) (plan_of : D → Option DevicePlan) (w : World) (h : List Event) (p : Parts) (d : D) (keeps : Keeps state machine plan_of w h p d) where
   pub seats_count : length p.seats ≡ length w.scripts
   seats_count = seats_many w h p.lists p.seats (map updates_in p.fences) keeps.consistent.past_is
 
@@ -213,7 +214,7 @@ module _ {D : Type 0} (state : D → VkState) (plan_of : D → Option DevicePlan
   seat_same t less = elim (slice_get_cases p.seats t).1 [
     | inl found ↦
         ap (λ (o : Option Seat). elim o [ None ↦ false | Some s ↦ ready_by (script_of w t) (map updates_in p.fences) s ]) found.2
-        ∙ ready_is state plan_of w h p d t found.0 keeps found.2
+        ∙ ready_is state machine plan_of w h p d t found.0 keeps found.2
     | inr past ↦ absurd (omega (arith, less, past.0, seats_count))
   ]
 

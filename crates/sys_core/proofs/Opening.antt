@@ -99,6 +99,7 @@ device_with w some =
       named = ap (λ t. t && true) (lt-ltb 0 (length w.queues) some);
       finished = λ q within. none_finished w q some;
       opening = λ less. absurd (omega (arith, less, one_batch w some));
+      unopened = λ none. const_of (length w.queues + 1) (length w.queues) 0;
     }
 
 device_without : (w : World) → length w.queues ≤ 0 → IsDevice w [] (first_device (plan_of_world w))
@@ -114,6 +115,7 @@ device_without w none = record {
   named = refl;
   finished = λ q within. absurd (omega (arith, within, none));
   opening = λ some. absurd (omega (arith, some));
+  unopened = λ _. const_of (length w.queues + 1) (length w.queues) 0;
 }
 
 -- with a queue or without

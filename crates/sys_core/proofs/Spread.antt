@@ -1,4 +1,4 @@
--- The device's words are the memory's, but for the dead resources, which have none.
+-- Words of the device's buffers are the memory's, but for the dead resources, which have none.
 use Rattle.std.proofs.Common.{ℕ, zero, suc, ◌≡◌, ◌<◌, ◌∙◌, sym, ap, refl, arith, List, [], ◌∷◌, length, map, Some, None, Option}
 use Rattle.std.proofs.lemmas.List.{length-map}
 use Rattle.std.specs.List.{slice_get, slice_index_or}
@@ -8,38 +8,14 @@ use Rattle.d3d_machine.specs.declared.world.Resource.{Resource}
 use Rattle.d3d_machine.specs.declared.world.Resource.TheVariants.{Buffer}
 use Rattle.d3d_machine.specs.World.{resource_of, words_of_resource}
 use Rattle.d3d_machine.specs.State.{words_at}
-use Rattle.vk_port.specs.Valid.{Matches, words_count}
-use Rattle.vk_port.specs.VkState.{VkState}
-use Rattle.sys_core.specs.Lowering.{plan_buffers, number_in, plan_number, plan_of_world}
-use Rattle.sys_core.specs.Memory.{spread, gathered_words, memory_of, device_words}
+use Rattle.sys_core.specs.Lowering.{plan_buffers, number_in, plan_number}
+use Rattle.sys_core.specs.Machine.{words_count}
+use Rattle.sys_core.specs.Memory.{spread, memory_of}
 
 -- how many words a resource has; none where it is dead
 abbrev pub resource_words : Option Resource → ℕ
 resource_words None = 0
 resource_words (Some r) = words_of_resource r
-
-empty : (xs : List ℕ) → length xs ≡ 0 → [] ≡ xs
-empty [] none = refl
-empty (x ∷ xs) none = absurd (omega (arith, none))
-
-gathered_spread : (rs : List (Option Resource)) (ws : List (List ℕ)) → length ws ≡ length (plan_buffers rs) → gathered_words rs (spread rs ws) ≡ ws
-gathered_spread [] [] long = refl
-gathered_spread [] (x ∷ ws) long = absurd (omega (arith, long))
-gathered_spread (None ∷ rs) ws long = gathered_spread rs ws long
-gathered_spread (Some (Buffer h n) ∷ rs) [] long = absurd (omega (arith, long))
-gathered_spread (Some (Buffer h n) ∷ rs) (x ∷ ws) long = ap (λ ys. x ∷ ys) (gathered_spread rs ws (omega (arith, long)))
-
-spread_gathered : (rs : List (Option Resource)) (m : List (List ℕ)) → map length m ≡ map resource_words rs → spread rs (gathered_words rs m) ≡ m
-spread_gathered [] [] sizes = refl
-spread_gathered [] (x ∷ m) sizes = absurd (cc)
-spread_gathered (r ∷ rs) [] sizes = absurd (cc)
-spread_gathered (None ∷ rs) (x ∷ m) sizes =
-    let none : length x ≡ 0 = grind arith in
-    let rest : map length m ≡ map resource_words rs = grind arith in
-    ap (λ ys. ys ∷ spread rs (gathered_words rs m)) (empty x none) ∙ ap (λ ys. x ∷ ys) (spread_gathered rs m rest)
-spread_gathered (Some r ∷ rs) (x ∷ m) sizes =
-    let rest : map length m ≡ map resource_words rs = grind arith in
-    ap (λ ys. x ∷ ys) (spread_gathered rs m rest)
 
 spread_sizes : (rs : List (Option Resource)) (ws : List (List ℕ)) → map length ws ≡ map words_count (plan_buffers rs) → map length (spread rs ws) ≡ map resource_words rs
 spread_sizes [] ws sizes = refl
@@ -49,16 +25,6 @@ spread_sizes (Some (Buffer h n) ∷ rs) (x ∷ ws) sizes =
     let first : length x ≡ n = grind arith in
     let rest : map length ws ≡ map words_count (plan_buffers rs) = grind arith in
     ap (λ k. k ∷ map length (spread rs ws)) first ∙ ap (λ ns. n ∷ ns) (spread_sizes rs ws rest)
-
-gathered_sizes : (rs : List (Option Resource)) (m : List (List ℕ)) → map length m ≡ map resource_words rs → map length (gathered_words rs m) ≡ map words_count (plan_buffers rs)
-gathered_sizes [] [] sizes = refl
-gathered_sizes [] (x ∷ m) sizes = absurd (cc)
-gathered_sizes (r ∷ rs) [] sizes = absurd (cc)
-gathered_sizes (None ∷ rs) (x ∷ m) sizes = gathered_sizes rs m (let rest : map length m ≡ map resource_words rs = grind arith in rest)
-gathered_sizes (Some (Buffer h n) ∷ rs) (x ∷ m) sizes =
-    let first : length x ≡ n = grind arith in
-    let rest : map length m ≡ map resource_words rs = grind arith in
-    ap (λ k. k ∷ map length (gathered_words rs m)) first ∙ ap (λ ns. n ∷ ns) (gathered_sizes rs m rest)
 
 spread_changed : (f : List ℕ → List ℕ) (rs : List (Option Resource)) (b : ℕ) (r : Resource) (ws : List (List ℕ)) → length ws ≡ length (plan_buffers rs) →
     slice_get rs b ≡ Some (Some r) → spread rs (changed_at f (number_in rs b) ws) ≡ changed_at f b (spread rs ws)
@@ -110,25 +76,13 @@ lives_at w b r is = by_place (slice_get w.resources b) refl
         let e : x ≡ Some r = sym (ap (λ (o : Option (Option Resource)). elim o [ None ↦ None | Some y ↦ y ]) at) ∙ is in
         at ∙ ap (λ y. Some y) e
 
--- the device has as many buffers as resources live
-pub as_many : (w : World) (v : VkState) → Matches (plan_of_world w) v → length v.words ≡ length (plan_buffers w.resources)
-as_many w v objects = sym (length-map v.words length) ∙ ap length objects.buffers ∙ length-map (plan_buffers w.resources) words_count
-
--- the device's words, by the memory that they are
-pub device_of_memory : (w : World) (ws : List (List ℕ)) → length ws ≡ length (plan_buffers w.resources) → device_words w (memory_of w ws) ≡ ws
-device_of_memory w ws long = gathered_spread w.resources ws long
-
--- a memory, by the device's words
-pub memory_of_device : (w : World) (m : List (List ℕ)) → map length m ≡ map resource_words w.resources → memory_of w (device_words w m) ≡ m
-memory_of_device w m sizes = spread_gathered w.resources m sizes
+-- words of the buffers are as many as resources live
+pub as_many : (w : World) (words : List (List ℕ)) → map length words ≡ map words_count (plan_buffers w.resources) → length words ≡ length (plan_buffers w.resources)
+as_many w words sizes = sym (length-map words length) ∙ ap length sizes ∙ length-map (plan_buffers w.resources) words_count
 
 -- the sizes of the memory
-pub memory_sizes_of : (w : World) (v : VkState) → Matches (plan_of_world w) v → map length (memory_of w v.words) ≡ map resource_words w.resources
-memory_sizes_of w v objects = spread_sizes w.resources v.words objects.buffers
-
--- the sizes of the device's buffers
-pub device_sizes_of : (w : World) (m : List (List ℕ)) → map length m ≡ map resource_words w.resources → map length (device_words w m) ≡ map words_count (plan_buffers w.resources)
-device_sizes_of w m sizes = gathered_sizes w.resources m sizes
+pub memory_sizes_of : (w : World) (words : List (List ℕ)) → map length words ≡ map words_count (plan_buffers w.resources) → map length (memory_of w words) ≡ map resource_words w.resources
+memory_sizes_of w words sizes = spread_sizes w.resources words sizes
 
 -- a live buffer changes on the device as in the memory
 pub memory_changed : (w : World) (f : List ℕ → List ℕ) (b : ℕ) (r : Resource) (ws : List (List ℕ)) → length ws ≡ length (plan_buffers w.resources) →

@@ -1,5 +1,5 @@
 -- How each step counts.
-use Rattle.std.proofs.Common.{ℕ, zero, suc, ◌≡◌, ◌<◌, ◌≤◌, ◌+◌, ◌∙◌, sym, ap, subst, refl, arith, List, [], ◌∷◌, ◌++◌, length, Some, Bool, true, false, replicate, append-nil, ◌⊎◌, inl, inr}
+use Rattle.std.proofs.Common.{ℕ, zero, suc, ◌≡◌, ◌<◌, ◌≤◌, ◌+◌, ◌∙◌, ap, refl, arith, List, [], ◌∷◌, ◌++◌, length, Some, Bool, true, false, replicate, append-nil, ◌⊎◌, inl, inr}
 use Rattle.std.specs.Prelude.{if◌then◌else◌, nat_lt, ◌==◌}
 use Rattle.std.proofs.lemmas.Bool.Decides.{leb_tells, nat_tests}
 use Rattle.std.proofs.lemmas.Bool.{ltb-true}
@@ -65,13 +65,13 @@ steps_more (x ∷ bs) b = omega (arith, steps_more bs b)
 
 -- what counts for a thread's event, on a device whose batches stay
 pub thread_counts : (h k : List Event) (v u : VkState) (a b : ℕ) → count_events k ≡ count_events h + 1 → u.journal ≡ v.journal → u.lanes ≡ v.lanes → b ≡ a →
-    (tally (record { history = k; device = u }) + steps_left v) + a ≡ (tally (record { history = h; device = v }) + steps_left u) + (b + 1)
+    (tally k u + steps_left v) + a ≡ (tally h v + steps_left u) + (b + 1)
 thread_counts h k v u a b more journal lanes same =
     omega (arith, more, ap length journal, ap batches_steps journal, ap lanes_left lanes, same)
 
 -- what counts for a submission
 pub submit_counts : (h : List Event) (v : VkState) (batch : Batch) (a b : ℕ) → IsValid v → batch.queue < length v.lanes → b ≡ a →
-    (tally (record { history = h; device = after_submit v batch }) + steps_left v) + a ≡ (tally (record { history = h; device = v }) + steps_left (after_submit v batch)) + (b + 1)
+    (tally h (after_submit v batch) + steps_left v) + a ≡ (tally h v + steps_left (after_submit v batch)) + (b + 1)
 submit_counts h v batch a b valid lane same =
     omega (arith, submit_left v batch valid lane, steps_more v.journal batch, length-append v.journal (batch ∷ []), same)
 
@@ -83,8 +83,8 @@ step_keeps v stepped.Free = refl
 
 -- what counts for a step of the Vulkan machine
 pub device_counts : (h : List Event) (v : VkState) (k : ℕ) (s : Stepped) (a b : ℕ) → IsValid v → slice_get (enabled_steps v) k ≡ Some s → a ≡ b →
-    (tally (record { history = h ++ step_events s; device = after_step v s }) + steps_left v) + a
-    ≡ (tally (record { history = h; device = v }) + steps_left (after_step v s)) + (b + 1)
+    (tally (h ++ step_events s) (after_step v s) + steps_left v) + a
+    ≡ (tally h v + steps_left (after_step v s)) + (b + 1)
 device_counts h v k s a b valid is same =
     omega (arith, falls v valid k s is, count_step h s, ap length (step_keeps v s), ap batches_steps (step_keeps v s), same)
 
@@ -130,5 +130,5 @@ counted_first w rest = record { equation = by_queue (nat_lt 0 (length w.queues))
 
 -- one step more
 pub counted_more : (w : World) (rest before after steps more : ℕ) (s u : SysState) → more ≡ steps + 1 → AreCounted w rest before steps s.history s.device →
-    (tally u + steps_left s.device) + before ≡ (tally s + steps_left u.device) + (after + 1) → AreCounted w rest after more u.history u.device
+    (tally u.history u.device + steps_left s.device) + before ≡ (tally s.history s.device + steps_left u.device) + (after + 1) → AreCounted w rest after more u.history u.device
 counted_more w rest before after steps more s u one counted counts = record { equation = omega (arith, one, counted.equation, counts) }

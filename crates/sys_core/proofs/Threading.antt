@@ -1,5 +1,5 @@
 -- What a thread's step needs, and what its event is.
-use Rattle.std.proofs.Common.{ℕ, ◌≡◌, ◌<◌, ◌∙◌, sym, ap, refl, arith, List, [], length, map, Some, None, Option, true, set, inl, inr}
+use Rattle.std.proofs.Common.{ℕ, ◌≡◌, ◌<◌, ◌∙◌, sym, ap, subst, refl, arith, List, [], ◌∷◌, ◌++◌, length, map, Some, None, Option, true, set, inl, inr}
 use Rattle.std.proofs.lemmas.Bool.{ltb-true}
 use Rattle.std.proofs.lemmas.List.{length-map}
 use Rattle.std.proofs.lemmas.Option.{slice_get_past, slice_get_cases}
@@ -15,35 +15,34 @@ use Rattle.d3d_machine.specs.declared.events.Event.TheVariants as event
 use Rattle.d3d_machine.specs.World.{is_named}
 use Rattle.d3d_machine.specs.State.{Place, place_of, opening_place, next_call, script_of}
 use Rattle.d3d_machine.specs.declared.calls.Reply.{Reply}
-use Rattle.d3d_machine.specs.CallEffects.{does}
-use Rattle.d3d_machine.specs.Replies.{refusal_by, refusal, reply_or, good_reply, reply_of}
-use Rattle.d3d_machine.specs.Effects.{done, memory_by}
+use Rattle.d3d_machine.specs.Effects.{done}
 use Rattle.d3d_machine.specs.Play.{state_after}
 use Rattle.d3d_machine.proofs.Shape.{run_has_shape}
 use Rattle.d3d_machine.proofs.Named.{next_is_named}
 use Rattle.vk_types.specs.declared.plan.DevicePlan.{DevicePlan}
+use Rattle.vk_sync_rules.specs.VkState.{VkState as Machine}
 use Rattle.vk_port.specs.VkState.{VkState}
 use Rattle.sys_core.specs.declared.parts.Armed.{Armed}
 use Rattle.sys_core.specs.declared.parts.Seat.{Seat}
 use Rattle.sys_core.specs.declared.parts.Parts.{Parts}
-use Rattle.sys_core.specs.Memory.{memory_of, device_words}
-use Rattle.sys_core.specs.Parts.{queued, updates_in, wait_since, state_by, reply_by, device_by, seat_after}
-use Rattle.sys_core.specs.Steps.{is_ready_thread, is_ready_place, thread_event, place_event, call_event, seen_state, after_event}
+use Rattle.sys_core.specs.Parts.{queued, updates_in, wait_since, seat_after}
+use Rattle.sys_core.specs.Host.{IsReply, after_call, reply_by}
+use Rattle.sys_core.specs.ThreadSteps.{HasWords, IsThreadStep}
+use Rattle.sys_core.specs.Steps.{is_ready_thread, is_ready_place}
 use Rattle.d3d_machine.specs.Past.{waiting_from}
-use Rattle.sys_core.specs.Serving.{HasBuffers}
+use Rattle.sys_core.specs.Machine.{HasBuffers}
 use Rattle.sys_core.specs.Keeps.{Keeps, ready_by}
 use Rattle.sys_core.proofs.Buffers.{has_buffers}
-use Rattle.sys_core.proofs.Spread.{as_many, device_of_memory}
-use Rattle.sys_core.proofs.Calling.{answer_alike}
-use Rattle.sys_core.proofs.PastParts.{lists_now, seats_many, values_are}
-use Rattle.sys_core.proofs.Keeping.{place_is, ready_is}
+use Rattle.sys_core.proofs.PastParts.{lists_now, seats_many}
+use Rattle.sys_core.proofs.Keeping.{place_is, ready_is, may_awake, reply_seen}
+use Rattle.sys_core.proofs.Replies.{tells_words}
 
 -- a thread's place written after a call
 pub seat_written : (fences : List (List ℕ)) (c : Call) (seats : List Seat) (t : ℕ) (s y : Seat) → slice_get seats t ≡ Some s → y ≡ seat_after fences c s →
     set seats t y ≡ changed_at (seat_after fences c) t seats
 seat_written fences c seats t s y at is = ap (set seats t) is ∙ set_is_changed (seat_after fences c) seats t s at
 
-module _ {D : Type 0} (state : D → VkState) (plan_of : D → Option DevicePlan) (w : World) (h : List Event) (p : Parts) (d : D) (keeps : Keeps state plan_of w h p d) where
+module _ {D : Type 0} (state : D → VkState) (machine : D → Machine) (plan_of : D → Option DevicePlan) (w : World) (h : List Event) (p : Parts) (d : D) (keeps : Keeps state machine plan_of w h p d) where
   seats_length : length p.seats ≡ length w.scripts
   seats_length = seats_many w h p.lists p.seats (map updates_in p.fences) keeps.consistent.past_is
 
@@ -72,7 +71,7 @@ module _ {D : Type 0} (state : D → VkState) (plan_of : D → Option DevicePlan
   call_left t s at waits ready =
       let seat : ℕ → Option Armed → Seat = λ m o. record { made = m; waits = o } in
       ltb-true s.made (length (script_of w t))
-      (sym (ap (λ o. ready_by (script_of w t) (map updates_in p.fences) (seat s.made o)) waits) ∙ ready_is state plan_of w h p d t s keeps at ∙ ready)
+      (sym (ap (λ o. ready_by (script_of w t) (map updates_in p.fences) (seat s.made o)) waits) ∙ ready_is state machine plan_of w h p d t s keeps at ∙ ready)
 
   -- the machine's place of a thread that does not wait
   pub next_is : (t : ℕ) (s : Seat) (c : Call) → slice_get p.seats t ≡ Some s → slice_get (script_of w t) s.made ≡ Some c → next_call w (state_after w h).desk t ≡ Some c
@@ -81,8 +80,8 @@ module _ {D : Type 0} (state : D → VkState) (plan_of : D → Option DevicePlan
   pub waits_is : (t : ℕ) (s : Seat) → slice_get p.seats t ≡ Some s → (place_of (state_after w h).desk t).waits ≡ option_map (waiting_from (map updates_in p.fences)) (option_map wait_since s.waits)
   waits_is t s at = ap (λ (x : Place). x.waits) (place_is w h p (state d) t s keeps.consistent at)
 
-  pub buffers_are : HasBuffers w (state d)
-  buffers_are = has_buffers w (state d) keeps.consistent.world keeps.consistent.device.objects
+  pub buffers_are : HasBuffers w (machine d)
+  buffers_are = has_buffers w (machine d) keeps.consistent.world keeps.machine_is.sizes
 
   pub lists_count : length p.lists ≡ length w.lists
   lists_count = ap length lists_are ∙ (run_has_shape w h).desk.lists
@@ -93,34 +92,34 @@ module _ {D : Type 0} (state : D → VkState) (plan_of : D → Option DevicePlan
   pub named_is : (t : ℕ) (s : Seat) (c : Call) → slice_get p.seats t ≡ Some s → slice_get (script_of w t) s.made ≡ Some c → is_named w c ≡ true
   named_is t s c at next = next_is_named w (state_after w h).desk t c keeps.consistent.world (next_is t s c at next)
 
-  -- the event of a thread that waits
-  pub awake_event : (t : ThreadId) (s : Seat) (a : Armed) → slice_get p.seats t.0 ≡ Some s → s.waits ≡ Some a → event.Awake t ≡ thread_event w h (state d) t.0
-  awake_event t s a at waits =
-      sym (ap (place_event w (seen_state w h (state d)) t.0) (waits_is t.0 s at ∙ ap (λ o. option_map (waiting_from (map updates_in p.fences)) (option_map wait_since o)) waits))
+  -- the step of a thread that waits
+  pub step_awake : (t : ThreadId) (s : Seat) (a : Armed) (k : List Event) → slice_get p.seats t.0 ≡ Some s → s.waits ≡ Some a → is_ready_thread w h t.0 ≡ true →
+      k ≡ h ++ event.Awake t ∷ [] → IsThreadStep w h k (state d) (state d) (machine d) (machine d) t.0
+  step_awake t s a k at waits ready history = record {
+    event = event.Awake t;
+    of_thread = refl;
+    enabled = may_awake state machine plan_of w h p d t s a keeps at waits ready;
+    words = tt;
+    history = history;
+    device = refl;
+    machine = refl;
+  }
 
-  pub reply_seen : (c : Call) → reply_by w p.lists (map updates_in p.fences) (state d) c ≡ reply_of w (seen_state w h (state d)) c
-  reply_seen c =
-      ap (λ ls. reply_or (refusal_by w ls c) (good_reply (state_by w p.lists (map updates_in p.fences) (state d)) c)) lists_are
-      ∙ ap (reply_or (refusal w (state_after w h).desk c))
-      (answer_alike (state_by w p.lists (map updates_in p.fences) (state d)) (seen_state w h (state d)) (does c).asks (does c).reads (values_are w h p.lists p.seats (map updates_in p.fences) keeps.consistent.past_is keeps.consistent.world keeps.consistent.run) (λ _. refl))
-
-  -- the event of a thread that makes its next call
-  pub call_event_is : (t : ThreadId) (s : Seat) (c : Call) → slice_get p.seats t.0 ≡ Some s → s.waits ≡ None → slice_get (script_of w t.0) s.made ≡ Some c →
-      event.Call t c (reply_by w p.lists (map updates_in p.fences) (state d) c) ≡ thread_event w h (state d) t.0
-  call_event_is t s c at waits next =
-      ap (event.Call t c) (reply_seen c)
-      ∙ sym (ap (place_event w (seen_state w h (state d)) t.0) (waits_is t.0 s at ∙ ap (λ o. option_map (waiting_from (map updates_in p.fences)) (option_map wait_since o)) waits)
-      ∙ ap (call_event w (seen_state w h (state d)) t.0) (next_is t.0 s c at next))
-
-  -- the device after a thread's waking
-  pub device_awake : (t : ThreadId) → state d ≡ after_event w h (state d) (event.Awake t)
-  device_awake t =
-      let vs : List (List ℕ) → VkState = λ ws. record (state d) { words = ws } in
-      ap vs (sym (device_of_memory w (state d).words (as_many w (state d) keeps.consistent.device.objects)))
-
-  -- the device after a call
-  pub device_seen : (c : Call) (t : ThreadId) (r : Reply) → device_by w p.lists (state d) c ≡ after_event w h (state d) (event.Call t c r)
-  device_seen c t r =
-      let vs : List (List ℕ) → VkState = λ ws. record (state d) { words = ws } in
-      let mine : List (List ℕ) = memory_of w (state d).words in
-      ap (λ ls. vs (device_words w (memory_by (done w ls c).stores mine))) lists_are
+  -- the step of a thread that makes its next call
+  pub step_call : (t : ThreadId) (s : Seat) (c : Call) (r : Reply) (k : List Event) (u : VkState) (n : Machine) → slice_get p.seats t.0 ≡ Some s → s.waits ≡ None →
+      slice_get (script_of w t.0) s.made ≡ Some c → IsReply w p.lists (map updates_in p.fences) (machine d) c r → k ≡ h ++ event.Call t c r ∷ [] → u ≡ state d →
+      n ≡ after_call w p.lists (machine d) c r → IsThreadStep w h k (state d) u (machine d) n t.0
+  step_call t s c r k u n at waits next answers history device after = record {
+    event = event.Call t c r;
+    of_thread = refl;
+    enabled = (
+      waits_is t.0 s at ∙ ap (λ o. option_map (waiting_from (map updates_in p.fences)) (option_map wait_since o)) waits,
+      next_is t.0 s c at next,
+      reply_seen state machine plan_of w h p d c r keeps answers,
+    );
+    words = subst (λ ls. HasWords w (machine d) (done w ls c).reads r) lists_are
+        (tells_words w (machine d) (done w p.lists c).reads (reply_by w p.lists (map updates_in p.fences) c) r answers);
+    history = history;
+    device = device;
+    machine = after ∙ ap (λ ls. after_call w ls (machine d) c r) lists_are;
+  }

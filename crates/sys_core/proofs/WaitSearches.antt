@@ -1,10 +1,9 @@
 -- The search for an update that meets a wait: each step keeps what it has found.
-use Rattle.std.proofs.Common.{ℕ, zero, suc, ◌≡◌, ◌<◌, ◌≤◌, ◌+◌, ◌∙◌, sym, ap, subst, refl, arith, add-one, List, [], ◌∷◌, ◌++◌, length, map, drop, slice_set, get_or, Option, Some, None, Bool, true, false, ◌||◌}
+use Rattle.std.proofs.Common.{ℕ, zero, suc, ◌≡◌, ◌<◌, ◌≤◌, ◌+◌, ◌∙◌, sym, ap, subst, refl, arith, add-one, List, [], ◌∷◌, length, map, slice_set, get_or, Option, Some, None, Bool, ◌||◌}
 use Rattle.std.specs.List.{slice_get, list_any}
 use Rattle.std.specs.Prelude.{nat_le}
 use Rattle.std.proofs.lemmas.Bool.{lt-leb}
 use Rattle.std.proofs.lemmas.List.{length-append}
-use Rattle.dx_base.specs.Each.{Each}
 use Rattle.dx_base.specs.Effects.{At, changed_by}
 use Rattle.dx_base.specs.Lists.{changed_at}
 use Rattle.dx_base.proofs.Each.{each_on, each_new, each_changed, each_got}
@@ -18,7 +17,7 @@ use Rattle.sys_core.specs.declared.parts.Armed.{Armed}
 use Rattle.sys_core.specs.declared.parts.Seat.{Seat}
 use Rattle.sys_core.specs.declared.parts.Signalled.{Signalled}
 use Rattle.sys_core.specs.Keeps.{ready_by}
-use Rattle.sys_core.specs.Parts.{place_since, armed_or, seat_after, woken_seat, opening_seat, updated_by, is_met_by}
+use Rattle.sys_core.specs.Parts.{place_since, armed_or, seat_after, woken_seat, opening_seat, updated_by}
 use Rattle.sys_core.specs.WaitSearches.{IsSearched, IsWaitSearched, AreSearched}
 
 -- no thread waits at first

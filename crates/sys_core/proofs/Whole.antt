@@ -1,22 +1,20 @@
 -- A calm history is a run with its words.
-use Rattle.std.proofs.Common.{ℕ, zero, suc, ◌≡◌, ◌<◌, ◌+◌, ◌∙◌, sym, ap, subst, refl, List, [], ◌∷◌, ◌++◌, length, map, Some, None, Option, Bool, true, false, is_some, ◌||◌, append-nil, slice_get, inl, inr, arith, ◌≤◌}
+use Rattle.std.proofs.Common.{ℕ, zero, suc, ◌≡◌, ◌<◌, ◌+◌, ◌∙◌, sym, ap, subst, refl, List, [], ◌∷◌, ◌++◌, length, Some, None, Option, Bool, true, false, append-nil, slice_get, inl, inr, arith, ◌≤◌}
 use Rattle.std.proofs.lemmas.Bool.{cases_lt}
+use Rattle.std.proofs.lemmas.Option.{slice_get_within}
 use Rattle.std.specs.Prelude.{◌==◌, if◌then◌else◌}
 use Rattle.std.specs.List.{list_all}
 use Rattle.dx_base.specs.declared.ids.ThreadId.{ThreadId}
-use Rattle.dx_base.specs.declared.hresult.Hresult.{Hresult}
 use Rattle.d3d_machine.specs.declared.world.World.{World}
 use Rattle.d3d_machine.specs.declared.calls.Call.{Call}
 use Rattle.dx_base.specs.Effects.{At}
-use Rattle.d3d_machine.specs.CallEffects.{does}
 use Rattle.d3d_machine.specs.declared.calls.Reply.{Reply}
-use Rattle.d3d_machine.specs.declared.events.Listed.{Listed}
 use Rattle.d3d_machine.specs.declared.events.Operation.{Operation}
 use Rattle.d3d_machine.specs.declared.events.Event.{Event}
 use Rattle.d3d_machine.specs.declared.events.Event.TheVariants as event
 use Rattle.d3d_machine.specs.World.{IsWorld, HasOneQueueAtMost}
-use Rattle.d3d_machine.specs.State.{Desk, State, first_state, place_of, next_call, called_of}
-use Rattle.d3d_machine.specs.Replies.{refusal_by, refusal, reply_or, good_reply, reply_of}
+use Rattle.d3d_machine.specs.State.{Desk, State, first_state, called_of}
+use Rattle.d3d_machine.specs.Replies.{refusal}
 use Rattle.d3d_machine.specs.Effects.{after, after_all, done, memory_by}
 use Rattle.d3d_machine.specs.Play.{May, Plays, SameReply, SameButWords, IsRun, IsRunButWords, state_after}
 use Rattle.d3d_machine.specs.Operations.{operations, counter, called_by}
@@ -24,27 +22,40 @@ use Rattle.d3d_machine.proofs.Operations.{operations_append}
 use Rattle.d3d_machine.proofs.Shape.{run_has_shape}
 use Rattle.d3d_machine.proofs.Runs.{plays_append, run_append}
 use Rattle.vk_types.specs.declared.batches.Batch.{Batch}
+use Rattle.vk_types.specs.declared.steps.VkStep.TheVariants.{Submit}
+use Rattle.vk_sync_rules.specs.Rules.{after_step as after_vk_step}
+use Rattle.vk_sync_rules.specs.Runs.{Fits}
+use Rattle.vk_sync_rules.specs.VkState.{VkState as Machine}
 use Rattle.vk_port.specs.declared.steps.Stepped.{Stepped}
 use Rattle.vk_port.specs.declared.steps.Stepped.TheVariants.{Passed, Ran, Bumped, Free}
 use Rattle.vk_port.specs.After.{after_step, after_submit}
 use Rattle.vk_port.specs.Enabled.{enabled_steps}
+use Rattle.vk_port.specs.Machine.{after_stepped}
+use Rattle.vk_port.specs.Meaning.{IsEnabled}
+use Rattle.vk_port.specs.Reads.{AreKnown}
+use Rattle.vk_port.specs.Settled.{IsSettled}
 use Rattle.vk_port.specs.VkState.{VkState}
-use Rattle.vk_port.specs.VkState as vulkan
-use Rattle.sys_core.specs.Parts.{state_by, reply_by, device_by}
-use Rattle.d3d_machine.specs.Past.{last_of}
-use Rattle.sys_core.specs.Lowering.{plan_of_world, opening_batches, lowered_commands}
-use Rattle.sys_core.specs.Memory.{memory_of, device_words}
-use Rattle.sys_core.specs.Steps.{submitted_of, step_events, after_submits}
+use Rattle.vk_port.proofs.Enabled.{enabled_means}
+use Rattle.vk_port.proofs.SettledSteps.{stays_settled}
+use Rattle.sys_core.specs.Lowering.{plan_buffers, lowered_commands}
+use Rattle.sys_core.specs.Machine.{IsMachine}
+use Rattle.sys_core.specs.Memory.{memory_of}
+use Rattle.sys_core.specs.Host.{after_call}
+use Rattle.sys_core.specs.Opened.{opened, opened_machine}
+use Rattle.sys_core.specs.Steps.{submitted_of, step_events}
+use Rattle.sys_core.specs.ThreadSteps.{IsOf, HasWords, TellsWords, after_host, IsThreadStep}
 use Rattle.sys_core.specs.Consistent.{IsDevice}
-use Rattle.sys_core.specs.Ahead.{IsAhead, IsQuiet, is_good_access, is_host_access, AreQuietFrom, AreHostAccessesQuiet, IsCalm, IsWhole}
-use Rattle.sys_core.proofs.Calling.{answer_alike, replies_alike}
-use Rattle.sys_core.proofs.Buffers.{same_sizes, memory_written}
-use Rattle.sys_core.proofs.Ahead.{device_within, called_now, drop_past, ahead_first, ahead_awake, idle_words}
+use Rattle.sys_core.specs.Ahead.{AreAhead, IsAhead, IsQuiet, is_good_access, is_host_access, AreQuietFrom, AreHostAccessesQuiet, IsCalm, IsWhole}
+use Rattle.sys_core.proofs.Ahead.{device_within, called_now, drop_past, ahead_first, ahead_awake, idle_words, first_buffers}
 use Rattle.sys_core.proofs.NoQueue.{no_queue_event, no_queue_idle, quiet_words}
 use Rattle.sys_core.specs.InOrder.{is_single, is_short}
 use Rattle.sys_core.proofs.InOrder.{all_front}
 use Rattle.sys_core.proofs.Orderly.{lowered_is_short, order_first, order_submit}
-use Rattle.sys_core.proofs.AheadSteps.{ahead_call, ahead_submit, StaysAhead, ahead_step, at_first}
+use Rattle.sys_core.proofs.AheadSteps.{ahead_call, ahead_submit, StaysAhead, ahead_step, at_first, memory_stored, some_queue, words_stored}
+use Rattle.vk_port.specs.Words.{words_after}
+use Rattle.sys_core.proofs.Replies.{reply_exact}
+use Rattle.sys_core.proofs.Settling.{call_kept, first_kept, IsOn, known_sizes, known_step, StaysKnown, quiet_finished, read_is_memory, simple_batch}
+use Rattle.sys_core.proofs.Spread.{as_many}
 use Rattle.d3d_machine.proofs.Named.{all_at}
 
 quiet_from_append : (w : World) (s : State) (h : List Event) (e : Event) → AreQuietFrom w s h → ((is_host_access w (after_all w s h) e ≡ true) → IsQuiet (after_all w s h)) →
@@ -108,104 +119,128 @@ pub plays_last : (Same : Reply → Reply → Type 0) (w : World) (s : State) (h 
 plays_last Same w s [] e plays = plays.0
 plays_last Same w s (d ∷ h) e plays = plays_last Same w (after w s d) h e plays.1
 
-reply_alike : (r : Option Hresult) (c : Call) (s u : State) → s.desk.fences ≡ u.desk.fences → ((is_good_access r c ≡ true) → s.memory ≡ u.memory) →
-    reply_or r (good_reply s c) ≡ reply_or r (good_reply u c)
-reply_alike (Some e) c s u values words = refl
-reply_alike None c s u values words =
-    answer_alike s u (does c).asks (does c).reads values (λ reads. words (ap (λ b. b || is_some (does c).stores) reads))
-
--- the reply by the fences' updates and the device's words is the machine's, where the device's words are the machine's
--- at a host access
-pub reply_is : (w : World) (s : State) (lists : List Listed) (fences : List (List ℕ)) (v : VkState) (c : Call) → lists ≡ s.desk.lists → map last_of fences ≡ s.desk.fences →
-    ((is_good_access (refusal w s.desk c) c ≡ true) → memory_of w v.words ≡ s.memory) → reply_by w lists fences v c ≡ reply_of w s c
-reply_is w s lists fences v c are values same =
-    ap (λ ls. reply_or (refusal_by w ls c) (good_reply (state_by w lists fences v) c)) are
-    ∙ reply_alike (refusal w s.desk c) c (state_by w lists fences v) s values same
-
--- a call with the reply by the device's words may come, with its words
-pub may_call : (w : World) (h : List Event) (lists : List Listed) (fences : List (List ℕ)) (v : VkState) (t : ThreadId) (c : Call) →
-    IsWorld w → IsRunButWords w h → IsDevice w h v → lists ≡ (state_after w h).desk.lists → map last_of fences ≡ (state_after w h).desk.fences →
-    (place_of (state_after w h).desk t.0).waits ≡ None → next_call w (state_after w h).desk t.0 ≡ Some c →
-    ((is_good_access (refusal w (state_after w h).desk c) c ≡ true) → IsQuiet (state_after w h)) → IsAhead w h v →
-    May SameReply w (state_after w h) (event.Call t c (reply_by w lists fences v c))
-may_call w h lists fences v t c world run device are values waits next quiet is =
-    (waits, next, reply_is w (state_after w h) lists fences v c are values (λ access. quiet_words w h v world run device is (quiet access)))
-
 -- a call that is served, in a world with a queue or without
-words_call : (w : World) (h : List Event) (lists : List Listed) (v : VkState) (t : ThreadId) (c : Call) (r : Reply) →
-    IsWorld w → IsRunButWords w h → IsRunButWords w (h ++ event.Call t c r ∷ []) → IsDevice w h v → lists ≡ (state_after w h).desk.lists →
-    ((is_good_access (refusal w (state_after w h).desk c) c ≡ true) → IsQuiet (state_after w h)) → IsAhead w h v → IsAhead w (h ++ event.Call t c r ∷ []) (device_by w lists v c)
-words_call w h lists v t c r world run now device are quiet is =
+words_call : (w : World) (h : List Event) (v : VkState) (words : List (List ℕ)) (t : ThreadId) (c : Call) (r : Reply) →
+    IsWorld w → IsRunButWords w h → IsRunButWords w (h ++ event.Call t c r ∷ []) → IsDevice w h v → length words ≡ length (plan_buffers w.resources) →
+    ((is_good_access (refusal w (state_after w h).desk c) c ≡ true) → IsQuiet (state_after w h)) → AreAhead w h v words →
+    AreAhead w (h ++ event.Call t c r ∷ []) v (words_stored w (done w (state_after w h).desk.lists c).stores words)
+words_call w h v words t c r world run now device long quiet is =
     elim (cases_lt 0 (length w.queues)) [
-      | inl some ↦ ahead_call w h lists v t c r run device some are quiet is
+      | inl some ↦ ahead_call w h v words t c r run device some long quiet is
       | inr none ↦
           let lanes : length v.lanes ≤ 0 = omega (arith, device.objects.lanes, none) in
-          let m : List (List ℕ) = (state_after w h).memory in
           let o : Option (At (ℕ × List ℕ)) = (done w (state_after w h).desk.lists c).stores in
-          let mine : List (List ℕ) = memory_of w v.words in
-          let same : mine ≡ m = idle_words w h v is (no_queue_idle w h v world run none lanes) in
-          no_queue_event w h (event.Call t c r) v (device_words w (memory_by (done w lists c).stores mine)) world now none lanes
-          (ap (λ ls. memory_of w (device_words w (memory_by (done w ls c).stores mine))) are
-          ∙ memory_written w v o device.objects ∙ ap (memory_by o) same)
+          let same : memory_of w words ≡ (state_after w h).memory = idle_words w h v words is (no_queue_idle w h v world run none lanes) in
+          no_queue_event w h (event.Call t c r) v (words_stored w o words) world now none lanes
+          (memory_stored w (state_after w h).desk.lists c words long ∙ ap (memory_by o) same)
     ]
 
-words_awake : (w : World) (h : List Event) (v : VkState) (t : ThreadId) → IsWorld w → IsRunButWords w h → IsRunButWords w (h ++ event.Awake t ∷ []) → IsDevice w h v →
-    IsAhead w h v → IsAhead w (h ++ event.Awake t ∷ []) v
-words_awake w h v t world run now device is =
+words_awake : (w : World) (h : List Event) (v : VkState) (words : List (List ℕ)) (t : ThreadId) → IsWorld w → IsRunButWords w h → IsRunButWords w (h ++ event.Awake t ∷ []) → IsDevice w h v →
+    AreAhead w h v words → AreAhead w (h ++ event.Awake t ∷ []) v words
+words_awake w h v words t world run now device is =
     elim (cases_lt 0 (length w.queues)) [
-      | inl some ↦ ahead_awake w h v t (device_within w h v device some) is
+      | inl some ↦ ahead_awake w h v words t (device_within w h v device some) is
       | inr none ↦
           let lanes : length v.lanes ≤ 0 = omega (arith, device.objects.lanes, none) in
-          no_queue_event w h (event.Awake t) v v.words world now none lanes (idle_words w h v is (no_queue_idle w h v world run none lanes))
+          no_queue_event w h (event.Awake t) v words world now none lanes (idle_words w h v words is (no_queue_idle w h v world run none lanes))
     ]
 
 -- the start
-pub whole_first : (w : World) → IsWhole w [] (after_submits (vulkan.first_state (plan_of_world w)) (opening_batches w))
-whole_first w = record { run = λ _. tt; words = λ _. ahead_first w; in_order = λ _. order_first w }
+pub whole_first : (w : World) → IsWhole w [] (opened w) (opened_machine w)
+whole_first w = record {
+  run = λ _. tt;
+  words = λ _. record { words = first_buffers w; known = (first_kept w).1; are = ahead_first w };
+  in_order = λ _. order_first w;
+  settled = λ _. (first_kept w).0;
+}
 
--- a call that is served, with the reply by the device's words
-pub whole_call : (w : World) (h : List Event) (lists : List Listed) (fences : List (List ℕ)) (v : VkState) (t : ThreadId) (c : Call) →
-    IsWorld w → IsRunButWords w h → IsDevice w h v → lists ≡ (state_after w h).desk.lists → map last_of fences ≡ (state_after w h).desk.fences →
-    (place_of (state_after w h).desk t.0).waits ≡ None → next_call w (state_after w h).desk t.0 ≡ Some c →
-    IsWhole w h v → IsWhole w (h ++ event.Call t c (reply_by w lists fences v c) ∷ []) (device_by w lists v c)
-whole_call w h lists fences v t c world run device are values waits next is =
-    let r : Reply = reply_by w lists fences v c in
+-- a call that is served, with a reply whose words agree with what the host reads
+whole_call : (w : World) (h : List Event) (v : VkState) (m : Machine) (t : ThreadId) (c : Call) (r : Reply) → IsWorld w → IsRunButWords w h → IsDevice w h v → IsMachine w v m →
+    May SameButWords w (state_after w h) (event.Call t c r) → HasWords w m (done w (state_after w h).desk.lists c).reads r →
+    IsWhole w h v m → IsWhole w (h ++ event.Call t c r ∷ []) v (after_call w (state_after w h).desk.lists m c r)
+whole_call w h v m t c r world run device machine may has is =
     let e : Event = event.Call t c r in
-    let now : IsRunButWords w (h ++ e ∷ []) =
-    run_append w h e run (waits, next, replies_alike w (state_after w h) lists fences v c are values (same_sizes w h v device.objects)) in
+    let s : State = state_after w h in
+    let now : IsRunButWords w (h ++ e ∷ []) = run_append w h e run may in
+    let front : IsCalm w (h ++ e ∷ []) → IsCalm w h = calm_front w h e in
+    let ahead : IsCalm w (h ++ e ∷ []) → IsAhead w h v m = λ calm. is.words (front calm) in
+    let quiet : IsCalm w (h ++ e ∷ []) → (is_good_access (refusal w s.desk c) c ≡ true) → IsQuiet s = λ calm. quiet_last w h e calm.quiet in
+    let kept : (calm : IsCalm w (h ++ e ∷ [])) → IsSettled (after_call w s.desk.lists m c r) 0 × AreKnown (after_call w s.desk.lists m c r) (words_stored w (done w s.desk.lists c).stores (ahead calm).words) =
+    λ calm. call_kept w v m s.desk.lists c r (ahead calm).words world machine (is.settled (front calm)) (ahead calm).known
+    (λ access. quiet_finished w h v m run device machine (quiet calm access)) in
     record {
-      run = λ calm. plays_append SameReply w (first_state w) h e (is.run (calm_front w h e calm))
-          (may_call w h lists fences v t c world run device are values waits next (quiet_last w h e calm.quiet) (is.words (calm_front w h e calm)));
-      words = λ calm. words_call w h lists v t c r world run now device are (quiet_last w h e calm.quiet) (is.words (calm_front w h e calm));
-      in_order = λ calm. is.in_order (calm_front w h e calm);
+      run = λ calm. plays_append SameReply w (first_state w) h e (is.run (front calm)) (
+        may.0,
+        may.1,
+        reply_exact w m s c r may.2 has
+            (read_is_memory w m v s.desk.lists c (ahead calm).words s.memory machine (is.settled (front calm)) (ahead calm).known
+            (λ access. (quiet_finished w h v m run device machine (quiet calm access), quiet_words w h v (ahead calm).words world run device (ahead calm).are (quiet calm access)))),
+      );
+      words = λ calm. record {
+        words = words_stored w (done w s.desk.lists c).stores (ahead calm).words;
+        known = (kept calm).1;
+        are = words_call w h v (ahead calm).words t c r world run now device (as_many w (ahead calm).words (known_sizes w v m (ahead calm).words machine (ahead calm).known)) (quiet calm) (ahead calm).are;
+      };
+      in_order = λ calm. is.in_order (front calm);
+      settled = λ calm. (kept calm).0;
     }
 
 -- a thread that wakes
-pub whole_awake : (w : World) (h : List Event) (v : VkState) (t : ThreadId) → IsWorld w → IsRunButWords w h → IsDevice w h v →
-    May SameButWords w (state_after w h) (event.Awake t) → IsWhole w h v → IsWhole w (h ++ event.Awake t ∷ []) v
-whole_awake w h v t world run device may is =
+whole_awake : (w : World) (h : List Event) (v : VkState) (m : Machine) (t : ThreadId) → IsWorld w → IsRunButWords w h → IsDevice w h v →
+    May SameButWords w (state_after w h) (event.Awake t) → IsWhole w h v m → IsWhole w (h ++ event.Awake t ∷ []) v m
+whole_awake w h v m t world run device may is =
     let e : Event = event.Awake t in
+    let ahead : IsCalm w (h ++ e ∷ []) → IsAhead w h v m = λ calm. is.words (calm_front w h e calm) in
     record {
       run = λ calm. plays_append SameReply w (first_state w) h e (is.run (calm_front w h e calm)) may;
-      words = λ calm. words_awake w h v t world run (run_append w h e run may) device (is.words (calm_front w h e calm));
+      words = λ calm. record {
+        words = (ahead calm).words;
+        known = (ahead calm).known;
+        are = words_awake w h v (ahead calm).words t world run (run_append w h e run may) device (ahead calm).are;
+      };
       in_order = λ calm. is.in_order (calm_front w h e calm);
+      settled = λ calm. is.settled (calm_front w h e calm);
     }
 
+thread_event : (w : World) (h : List Event) (v : VkState) (m : Machine) (t : ℕ) (e : Event) → IsWorld w → IsRunButWords w h → IsDevice w h v → IsMachine w v m → IsOf t e →
+    May SameButWords w (state_after w h) e → TellsWords w (state_after w h).desk m e → IsWhole w h v m → IsWhole w (h ++ e ∷ []) v (after_host w (state_after w h).desk m e)
+thread_event w h v m t (event.Call u c r) world run device machine of_thread may tells is = whole_call w h v m u c r world run device machine may tells is
+thread_event w h v m t (event.Awake u) world run device machine of_thread may tells is = whole_awake w h v m u world run device may is
+thread_event w h v m t (event.Queue q) world run device machine of_thread may tells is = absurd of_thread
+
+-- a step of a thread
+pub whole_thread : (w : World) (h k : List Event) (v u : VkState) (m n : Machine) (t : ℕ) → IsWorld w → IsRunButWords w h → IsDevice w h v → IsMachine w v m → IsThreadStep w h k v u m n t →
+    IsWhole w h v m → IsWhole w k u n
+whole_thread w h k v u m n t world run device machine step is =
+    subst (λ x. IsWhole w k u x) (sym step.machine)
+    (subst (λ x. IsWhole w k x (after_host w (state_after w h).desk m step.event)) (sym step.device)
+    (subst (λ x. IsWhole w x v (after_host w (state_after w h).desk m step.event)) (sym step.history)
+    (thread_event w h v m t step.event world run device machine step.of_thread step.enabled step.words is)))
+
 -- the submission of the next operation of a queue
-pub whole_submit : (w : World) (h : List Event) (v : VkState) (q : ℕ) (b : Batch) (o : Operation) → IsDevice w h v → q < length w.queues →
-    slice_get (operations w h q) (submitted_of v q) ≡ Some o → b.queue ≡ q → b.number ≡ submitted_of v q + 1 → b.commands ≡ lowered_commands w o →
-    IsWhole w h v → IsWhole w h (after_submit v b)
-whole_submit w h v q b o device within next queue number cs is = record {
+pub whole_submit : (w : World) (h : List Event) (v : VkState) (m : Machine) (q : ℕ) (b : Batch) (o : Operation) → IsDevice w h v → IsMachine w v m → q < length w.queues →
+    slice_get (operations w h q) (submitted_of v q) ≡ Some o → b.queue ≡ q → b.number ≡ submitted_of v q + 1 → b.commands ≡ lowered_commands w o → b.sets ≡ (q, submitted_of v q + 1) ∷ [] →
+    Fits m (Submit b) → IsWhole w h v m → IsWhole w h (after_submit v b) (after_vk_step m (Submit b))
+whole_submit w h v m q b o device machine within next queue number cs sets fits is = record {
   run = is.run;
   words = λ calm.
-      at_first (λ p. slice_get (operations w h p) (submitted_of v p) ≡ Some o → b.queue ≡ p → b.number ≡ submitted_of v p + 1 → IsAhead w h (after_submit v b)) q (length w.queues) within
-      (omega (arith, within, calm.world.queues.few_queues))
-      (λ next queue number. ahead_submit w h v b o device.objects (omega (arith, device.objects.lanes, within)) next queue number cs (is.words calm)) next queue number;
+      let ahead : IsAhead w h v m = is.words calm in
+      let long : length ahead.words ≡ length (plan_buffers w.resources) = as_many w ahead.words (known_sizes w v m ahead.words machine ahead.known) in
+      record {
+        words = ahead.words;
+        known = ahead.known;
+        are = at_first (λ p. slice_get (operations w h p) (submitted_of v p) ≡ Some o → b.queue ≡ p → b.number ≡ submitted_of v p + 1 → AreAhead w h (after_submit v b) ahead.words) q (length w.queues) within
+            (omega (arith, within, calm.world.queues.few_queues))
+            (λ next queue number. ahead_submit w h v ahead.words b o long (omega (arith, device.objects.lanes, within)) next queue number cs ahead.are) next queue number;
+      };
   in_order = λ calm.
       let zeroth : q ≡ 0 = omega (arith, within, calm.world.queues.few_queues) in
       let single : is_single o ≡ true = all_at is_single (operations w h q) (submitted_of v q) o (calm.single q) next in
       let lanes : 0 < length v.lanes = omega (arith, device.objects.lanes, within) in
       order_submit v b lanes (queue ∙ zeroth) (ap is_short cs ∙ lowered_is_short w o single) (is.in_order calm);
+  settled = λ calm.
+      let single : is_single o ≡ true = all_at is_single (operations w h q) (submitted_of v q) o (calm.single q) next in
+      stays_settled m 0 (Submit b) machine.begins (is.settled calm) refl fits (λ _. simple_batch w b o (q, submitted_of v q + 1) cs sets single);
 }
 
 same_history : (w : World) (h : List Event) → (IsCalm w (h ++ []) → IsCalm w h) × (IsRun w h → IsRun w (h ++ []))
@@ -227,15 +262,30 @@ step_goes_on w h (Bumped q n) now = by_number (n == 0) now
         let e : Event = event.Queue (record { 0 = q }) in
         (λ calm. calm_front w h e calm, λ run. plays_append SameReply w (first_state w) h e run (plays_last SameButWords w (first_state w) h e now))
 
+-- a command of a world with one queue is of that queue
+on_first : (v : VkState) (s : Stepped) → length v.lanes ≡ 1 → IsEnabled v s → IsOn 0 s
+on_first v (Passed q n) one enabled = tt
+on_first v (Ran q n k) one enabled = omega (arith, one, slice_get_within v.lanes q enabled.lane enabled.there)
+on_first v (Bumped q n) one enabled = tt
+on_first v Free one enabled = tt
+
 -- a step of the device
-pub whole_step : (w : World) (h : List Event) (v : VkState) (j : ℕ) (s : Stepped) → IsRunButWords w h → IsDevice w h v →
-    slice_get (enabled_steps v) j ≡ Some s → IsRunButWords w (h ++ step_events s) → IsWhole w h v → IsWhole w (h ++ step_events s) (after_step v s)
-whole_step w h v j s run device at now is =
+pub whole_step : (w : World) (h : List Event) (v : VkState) (m : Machine) (j : ℕ) (s : Stepped) → IsRunButWords w h → IsDevice w h v → IsMachine w v m →
+    slice_get (enabled_steps v) j ≡ Some s → IsRunButWords w (h ++ step_events s) → IsWhole w h v m → IsWhole w (h ++ step_events s) (after_step v s) (after_stepped m s [])
+whole_step w h v m j s run device machine at now is =
     let goes : (IsCalm w (h ++ step_events s) → IsCalm w h) × (IsRun w h → IsRun w (h ++ step_events s)) = step_goes_on w h s now in
-    let stays : IsCalm w (h ++ step_events s) → StaysAhead w h v s =
-    λ calm. ahead_step w h v j s calm.world.queues run device at (is.words (goes.0 calm)) (is.in_order (goes.0 calm)) in
+    let enabled : IsEnabled v s = enabled_means v j s at in
+    let lanes : 0 < length v.lanes = some_queue v s enabled in
+    let some : 0 < length w.queues = omega (arith, device.objects.lanes, lanes) in
+    let ahead : IsCalm w (h ++ step_events s) → IsAhead w h v m = λ calm. is.words (goes.0 calm) in
+    let stays : (calm : IsCalm w (h ++ step_events s)) → StaysAhead w h v (ahead calm).words s =
+    λ calm. ahead_step w h v (ahead calm).words j s calm.world.queues run device at (ahead calm).are (is.in_order (goes.0 calm)) in
+    let kept : (calm : IsCalm w (h ++ step_events s)) → StaysKnown v m 0 s (ahead calm).words =
+    λ calm. known_step w h v m 0 s (ahead calm).words device machine enabled some
+    (on_first v s (omega (arith, device.objects.lanes, some, calm.world.queues.few_queues)) enabled) (is.settled (goes.0 calm)) (ahead calm).known in
     record {
       run = λ calm. goes.1 (is.run (goes.0 calm));
-      words = λ calm. (stays calm).words;
+      words = λ calm. record { words = words_after v s (ahead calm).words; known = (kept calm).known; are = (stays calm).are };
       in_order = λ calm. (stays calm).in_order;
+      settled = λ calm. (kept calm).settled;
     }

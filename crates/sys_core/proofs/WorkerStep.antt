@@ -23,6 +23,7 @@ use Rattle.d3d_machine.proofs.Named.{all_at}
 use Rattle.vk_types.specs.declared.batches.Batch.{Batch}
 use Rattle.vk_types.specs.declared.plan.DevicePlan.{DevicePlan}
 use Rattle.vk_port.specs.Journal.{next_number, fits_plan}
+use Rattle.vk_sync_rules.specs.VkState.{VkState as Machine}
 use Rattle.vk_port.specs.VkState.{VkState}
 use Rattle.vk_port.specs.After.{after_submit}
 use Rattle.vk_port.proofs.Lists.{item_at}
@@ -31,9 +32,13 @@ use Rattle.sys_core.specs.declared.parts.Parts.{Parts}
 use Rattle.sys_core.specs.Lowering.{plan_of_world, lowered}
 use Rattle.sys_core.specs.Batches.{batch_by, is_numbered_operation}
 use Rattle.sys_core.specs.Parts.{queued, updates_in, submitted_one}
-use Rattle.sys_core.specs.Steps.{submitted_of, is_ready_worker, submitted_batches, next_batch, after_submits}
+use Rattle.sys_core.specs.Steps.{submitted_of, is_ready_worker, submitted_batches, next_batch, after_submits, after_vk_submits}
 use Rattle.sys_core.specs.Consistent.{IsHeld, IsConsistent}
 use Rattle.sys_core.specs.Keeps.{Keeps}
+use Rattle.vk_types.specs.declared.steps.VkStep.TheVariants.{Submit}
+use Rattle.vk_sync_rules.specs.Rules.{after_step as after_vk_step}
+use Rattle.sys_core.specs.Machine.{IsMachine}
+use Rattle.sys_core.proofs.MachineSteps.{machine_submit}
 use Rattle.sys_core.proofs.Holding.{slice_get_drop}
 use Rattle.sys_core.proofs.Standing.{next_is}
 use Rattle.sys_core.proofs.Startup.{begins_of}
@@ -62,7 +67,7 @@ pub record IsNext (w : World) (h : List Event) (v : VkState) (q : ℕ) (y : Held
   pub good : is_good_operation w o ≡ true
   pub few : y.submitted + 1 ≤ length h
 
-module _ {D : Type 0} (state : D → VkState) (plan_of : D → Option DevicePlan) (w : World) (h : List Event) (p : Parts) (d : D) (keeps : Keeps state plan_of w h p d) where
+module _ {D : Type 0} (state : D → VkState) (machine : D → Machine) (plan_of : D → Option DevicePlan) (w : World) (h : List Event) (p : Parts) (d : D) (keeps : Keeps state machine plan_of w h p d) where
   pub held_at : (q : ℕ) (y : Held) → q < length w.queues → y ≡ get_or p.held q y → slice_get p.held q ≡ Some y
   held_at q y within is =
       slice_get_read p.held (length p.held) q y refl (omega (arith, within, length-map p.held queued, keeps.consistent.held_are.count)) is
@@ -103,6 +108,20 @@ module _ {D : Type 0} (state : D → VkState) (plan_of : D → Option DevicePlan
       b ≡ lowered w h (state d).journal q (submitted_of (state d) q + 1) o
   batch_next most q y o b within next is = is ∙ sym (lowered_is w h (state d) q (queued y) o most keeps.consistent.device next.held within)
 
+  pub machine_next : HasOneQueueAtMost w → (q : ℕ) (y : Held) (o : Operation) (b : Batch) → q < length w.queues → IsNext w h (state d) q y o → b ≡ batch_by w q (y.submitted + 1) y.last_signal o →
+      IsMachine w (after_submit (state d) b) (after_vk_step (machine d) (Submit b))
+  machine_next most q y o b within next is =
+      let queue : b.queue ≡ q = ap (λ (x : Batch). x.queue) is in
+      machine_submit w (state d) (machine d) b keeps.machine_is (omega (arith, queue, within, keeps.consistent.device.objects.lanes))
+      (ap (λ (x : Batch). x.number) is ∙ number_next q y o within next ∙ ap (λ i. next_number i (state d).journal) (sym queue))
+      (ap (fits_plan (plan_of_world w)) is ∙ batch_fits w q (y.submitted + 1) y.last_signal o within next.good)
+
+  pub machine_after : HasOneQueueAtMost w → (q : ℕ) (y : Held) (o : Operation) (b : Batch) (n : Machine) → q < length w.queues → IsNext w h (state d) q y o → b ≡ batch_by w q (y.submitted + 1) y.last_signal o →
+      n ≡ after_vk_step (machine d) (Submit b) → n ≡ after_vk_submits (machine d) (submitted_batches w h (state d) q)
+  machine_after most q y o b n within next is after =
+      after ∙ ap (λ x. after_vk_step (machine d) (Submit x)) (batch_next most q y o b within next is)
+      ∙ ap (λ x. after_vk_submits (machine d) (next_batch w h (state d) q x)) (sym next.called)
+
   pub state_next : HasOneQueueAtMost w → (q : ℕ) (y : Held) (o : Operation) (b : Batch) (u : VkState) → q < length w.queues → IsNext w h (state d) q y o → b ≡ batch_by w q (y.submitted + 1) y.last_signal o →
       u ≡ after_submit (state d) b → u ≡ after_submits (state d) (submitted_batches w h (state d) q)
   state_next most q y o b u within next is after =
@@ -110,9 +129,9 @@ module _ {D : Type 0} (state : D → VkState) (plan_of : D → Option DevicePlan
       ∙ ap (λ x. after_submits (state d) (next_batch w h (state d) q x)) (sym next.called)
 
   pub keeps_next : HasOneQueueAtMost w → (q : ℕ) (y z : Held) (o : Operation) (b : Batch) (e : D) → q < length w.queues → slice_get p.held q ≡ Some y → y ≡ get_or p.held q y → IsNext w h (state d) q y o →
-      b ≡ batch_by w q (y.submitted + 1) y.last_signal o → state e ≡ after_submit (state d) b → plan_of e ≡ plan_of d → queued z ≡ submitted_one o (queued y) →
-      Keeps state plan_of w h (record p { held = set p.held q z }) e
-  keeps_next most q y z o b e within at lent next is after plan submitted =
+      b ≡ batch_by w q (y.submitted + 1) y.last_signal o → state e ≡ after_submit (state d) b → machine e ≡ after_vk_step (machine d) (Submit b) → plan_of e ≡ plan_of d → queued z ≡ submitted_one o (queued y) →
+      Keeps state machine plan_of w h (record p { held = set p.held q z }) e
+  keeps_next most q y z o b e within at lent next is after moved_on plan submitted =
       let at_queued : slice_get (map queued p.held) q ≡ Some (queued y) = slice_get-map queued p.held q ∙ ap (option_map queued) at in
       let held : map queued (set p.held q z) ≡ changed_at (submitted_one o) q (map queued p.held) =
       map_write queued (submitted_one o) p.held q y z (slice_get_within p.held q y at) lent submitted in
@@ -122,6 +141,7 @@ module _ {D : Type 0} (state : D → VkState) (plan_of : D → Option DevicePlan
             (sym (after ∙ ap (after_submit (state d)) (batch_next most q y o b within next is)))
             (subst (λ x. IsConsistent w h p.lists p.seats (map updates_in p.fences) x (after_submit (state d) (lowered w h (state d).journal q (submitted_of (state d) q + 1) o))) (sym held)
             (consistent_submit w h p.lists p.seats (map updates_in p.fences) (map queued p.held) (state d) q (queued y) o keeps.consistent at_queued next.head));
+        machine_is = subst (IsMachine w (state e)) (sym moved_on) (subst (λ v. IsMachine w v (after_vk_step (machine d) (Submit b))) (sym after) (machine_next most q y o b within next is));
         plan = plan ∙ keeps.plan;
         numbers = keeps.numbers;
         searched = keeps.searched;

@@ -176,5 +176,6 @@ consistent_submit w h lists seats fences held v q x o is at head =
         named = all_append (λ y. nat_lt y.queue (length w.queues)) v.journal (b ∷ []) is.device.named (and_of (nat_lt q (length w.queues)) true (lt-ltb q (length w.queues) within) refl);
         finished = λ p inside. is.device.finished p inside ∙ ap (λ n. (first_number p + n) - 1) (sym (finished_same b p v lanes));
         opening = λ some. is.device.opening (omega (arith, some, finished_same b 0 v lanes));
+        unopened = λ none. is.device.unopened (omega (arith, none, finished_same b 0 v lanes));
       };
     }

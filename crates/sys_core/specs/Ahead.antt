@@ -1,4 +1,4 @@
--- The device's words with what it has yet to do, and the machine's memory with what it has yet to complete.
+-- The words of the device's buffers with what it has yet to do, and the machine's memory with what it has yet to complete.
 use Rattle.std.specs.Prelude.{ℕ, ◌≡◌, List, [], ◌∷◌, ◌++◌, drop, Option, Some, None, Bool, true, false, is_some, ◌||◌}
 use Rattle.std.specs.List.{list_all}
 use Rattle.dx_base.specs.declared.hresult.Hresult.{Hresult}
@@ -23,6 +23,9 @@ use Rattle.vk_types.specs.declared.commands.VkCommand.{VkCommand}
 use Rattle.vk_port.specs.declared.lanes.Running.{Running}
 use Rattle.vk_port.specs.After.{after_command}
 use Rattle.vk_port.specs.Enabled.{undone}
+use Rattle.vk_sync_rules.specs.VkState.{VkState as Machine}
+use Rattle.vk_port.specs.Reads.{AreKnown}
+use Rattle.vk_port.specs.Settled.{IsSettled}
 use Rattle.vk_port.specs.VkState.{VkState, lane_of}
 use Rattle.sys_core.specs.InOrder.{is_single, are_in_order}
 use Rattle.sys_core.specs.Lowering.{lowered_commands}
@@ -49,11 +52,17 @@ abbrev pub memory_ahead : List Operation → List (List ℕ) → List (List ℕ)
 memory_ahead [] m = m
 memory_ahead (o ∷ os) m = memory_ahead os (memory_after_operation m (Some o))
 
--- the device's words after its commands that are not done, and after the operations that are not submitted, are
--- the machine's memory after each called operation that is not complete
-pub record IsAhead (w : World) (h : List Event) (v : VkState) : Type 0 where
-  pub ahead : memory_ahead (drop (submitted_of v 0) (operations w h 0)) (memory_of w (run_commands (batches_undone (lane_of v 0).batches) v.words))
+-- words, after the device's commands that are not done, and after the operations that are not submitted, are the machine's
+-- memory after each called operation that is not complete
+pub record AreAhead (w : World) (h : List Event) (v : VkState) (words : List (List ℕ)) : Type 0 where
+  pub ahead : memory_ahead (drop (submitted_of v 0) (operations w h 0)) (memory_of w (run_commands (batches_undone (lane_of v 0).batches) words))
       ≡ memory_ahead (drop (counter h 0) (operations w h 0)) (state_after w h).memory
+
+-- the number in each word of the device's buffers is known, and these words are so
+pub record IsAhead (w : World) (h : List Event) (v : VkState) (m : Machine) : Type 0 where
+  pub words : List (List ℕ)
+  pub known : AreKnown m words
+  pub are : AreAhead w h v words
 
 -- no called operation is incomplete
 pub record IsQuiet (s : State) : Type 0 where
@@ -124,8 +133,10 @@ pub record IsCalm (w : World) (h : List Event) : Type 0 where
   pub quiet : AreHostAccessesQuiet w h
   pub single : AreSingle w h
 
--- a calm history is a run with its words
-pub record IsWhole (w : World) (h : List Event) (v : VkState) : Type 0 where
+-- a calm history is a run with its words: those of the device are known, its batches are done in order, and its queue is
+-- settled
+pub record IsWhole (w : World) (h : List Event) (v : VkState) (m : Machine) : Type 0 where
   pub run : IsCalm w h → IsRun w h
-  pub words : IsCalm w h → IsAhead w h v
+  pub words : IsCalm w h → IsAhead w h v m
   pub in_order : IsCalm w h → are_in_order (lane_of v 0).batches ≡ true
+  pub settled : IsCalm w h → IsSettled m 0

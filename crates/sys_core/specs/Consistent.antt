@@ -50,7 +50,7 @@ abbrev pub finished_of : VkState → ℕ → ℕ
 finished_of v q = length (of_queue q v.journal) - length (lane_of v q).batches
 
 -- the device has the world's objects, the history's completions are its finished batches, and the start-up
--- timeline stands at 1 once the start-up batch has finished
+-- timeline stands at 1 once the start-up batch has finished, and at 0 before
 pub record IsDevice (w : World) (h : List Event) (v : VkState) : Type 0 where
   pub valid : IsValid v
   pub objects : Matches (plan_of_world w) v
@@ -58,6 +58,7 @@ pub record IsDevice (w : World) (h : List Event) (v : VkState) : Type 0 where
   pub named : list_all (λ b. nat_lt b.queue (length w.queues)) v.journal ≡ true
   pub finished : (q : ℕ) → q < length w.queues → counter h q ≡ (first_number q + finished_of v q) - 1
   pub opening : 0 < finished_of v 0 → counter_of v (length w.queues) ≡ 1
+  pub unopened : finished_of v 0 ≡ 0 → counter_of v (length w.queues) ≡ 0
 
 -- what the system keeps at every step
 pub record IsConsistent (w : World) (h : List Event) (lists : List Listed) (seats : List Seat) (fences : List (List ℕ)) (held : List Queued) (v : VkState) : Type 0 where

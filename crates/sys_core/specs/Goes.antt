@@ -12,29 +12,35 @@ use Rattle.d3d_machine.specs.declared.events.Event.TheVariants as event
 use Rattle.d3d_machine.specs.Laws.{HasNoEffect}
 use Rattle.d3d_machine.specs.Play.{IsFinished, state_after}
 use Rattle.verdicts.specs.declared.rules.Verdict.TheVariants.{Clean}
+use Rattle.vk_sync_rules.specs.VkState.{VkState as Machine}
 use Rattle.vk_port.specs.VkState.{VkState}
 use Rattle.sys_core.specs.Keeps.{SysView}
-use Rattle.sys_core.specs.Steps.{enabled_of, submitted_batches, after_submits, IsDeviceStep}
+use Rattle.sys_core.specs.Steps.{enabled_of, submitted_batches, after_submits, after_vk_submits, IsDeviceStep}
 use Rattle.sys_core.specs.ThreadSteps.{IsThreadStep}
 use Rattle.vk_port.specs.Left.{steps_left}
 use Rattle.sys_core.specs.StepCount.{rest_used, count_calls, count_wakings, batches_steps}
 use Rattle.sys_core.specs.Work.{work}
 
--- the state of the system: its history, and its device's state; the operations that are called and not submitted are
+-- the state of the system: its history, what each queue of its device has yet to do, and the device's machine; the operations that are called and not submitted are
 -- those of the history whose batches the device does not have
 pub record SysState : Type 0 where
   pub history : List Event
   pub device : VkState
+  pub machine : Machine
 
 -- the state of a system
-abbrev pub state_of : {D : Type 0} → (D → VkState) → SysView D → SysState
-state_of state s = record { history = s.history; device = state s.device }
+abbrev pub state_of : {D : Type 0} → (D → VkState) → (D → Machine) → SysView D → SysState
+state_of state machine s = record { history = s.history; device = state s.device; machine = machine s.device }
 
 -- a step leads from one state to another
 abbrev pub IsStep : World → SysState → Step → SysState → Type 0
-IsStep w s (step.Thread t) u = IsThreadStep w s.history u.history s.device u.device t
-IsStep w s (step.Worker q) u = u ≡ record { history = s.history; device = after_submits s.device (submitted_batches w s.history s.device q) }
-IsStep w s (step.Device k) u = IsDeviceStep s.history u.history s.device u.device k
+IsStep w s (step.Thread t) u = IsThreadStep w s.history u.history s.device u.device s.machine u.machine t
+IsStep w s (step.Worker q) u = u ≡ record {
+  history = s.history;
+  device = after_submits s.device (submitted_batches w s.history s.device q);
+  machine = after_vk_submits s.machine (submitted_batches w s.history s.device q);
+}
+IsStep w s (step.Device k) u = IsDeviceStep s.history u.history s.device u.device s.machine u.machine k
 
 -- one choice: the system has not finished, and the step is the one that can be taken whose place is the choice modulo their
 -- number, by the verdict so far, which is Clean for now; `free` is how many free steps the device offers, which are none where it has none left to take
@@ -57,17 +63,17 @@ Goes w rest s (c ∷ cs) (k ∷ ks) left t =
     (u : SysState) × (now : ℕ) × (m : Chooses w rest c s u) × (m.step ≡ k) × (rest ≡ now + rest_used s.device k) × Goes w now u cs ks left t
 
 -- the events of threads, and the batches with the steps that they take
-abbrev pub tally : SysState → ℕ
-tally s = (count_calls s.history + count_wakings s.history) + (length s.device.journal + batches_steps s.device.journal)
+abbrev pub tally : List Event → VkState → ℕ
+tally h v = (count_calls h + count_wakings h) + (length v.journal + batches_steps v.journal)
 
 -- a step of the system was taken: it is one more call, waking or batch, one free step fewer, or one step fewer that is left
 -- of the device's batches
-pub record WasTaken {D : Type 0} (state : D → VkState) (rest_of : D → ℕ) (k : Step) (s u : SysView D) : Type 0 where
+pub record WasTaken {D : Type 0} (state : D → VkState) (machine : D → Machine) (rest_of : D → ℕ) (k : Step) (s u : SysView D) : Type 0 where
   pub world : u.world ≡ s.world
-  pub goes : IsStep s.world (state_of state s) k (state_of state u)
+  pub goes : IsStep s.world (state_of state machine s) k (state_of state machine u)
   pub rest : rest_of s.device ≡ rest_of u.device + rest_used (state s.device) k
-  pub counts : (tally (state_of state u) + steps_left (state s.device)) + rest_of s.device
-      ≡ (tally (state_of state s) + steps_left (state u.device)) + (rest_of u.device + 1)
+  pub counts : (tally u.history (state u.device) + steps_left (state s.device)) + rest_of s.device
+      ≡ (tally s.history (state s.device) + steps_left (state u.device)) + (rest_of u.device + 1)
   pub falls : work u.world u.history (state u.device) + rest_of u.device < work s.world s.history (state s.device) + rest_of s.device
 
 -- where a call was answered by an error, it had no effect: the device is as before, and so is the machine but for what a
@@ -75,10 +81,10 @@ pub record WasTaken {D : Type 0} (state : D → VkState) (rest_of : D → ℕ) (
 abbrev pub AreRefusalsIdle : World → SysState → SysState → Type 0
 AreRefusalsIdle w s u =
     (t : ThreadId) (c : Call) (e : Hresult) → u.history ≡ s.history ++ event.Call t c (reply.Error e) ∷ [] →
-    (u.device ≡ s.device) × HasNoEffect (state_after w s.history) (state_after w u.history) t c
+    (u.device ≡ s.device) × (u.machine ≡ s.machine) × HasNoEffect (state_after w s.history) (state_after w u.history) t c
 
 -- nothing of the system has changed that a step changes
-pub record Stays {D : Type 0} (state : D → VkState) (rest_of : D → ℕ) (s u : SysView D) : Type 0 where
+pub record Stays {D : Type 0} (state : D → VkState) (machine : D → Machine) (rest_of : D → ℕ) (s u : SysView D) : Type 0 where
   pub world : u.world ≡ s.world
-  pub state_is : state_of state u ≡ state_of state s
+  pub state_is : state_of state machine u ≡ state_of state machine s
   pub rest : rest_of u.device ≡ rest_of s.device

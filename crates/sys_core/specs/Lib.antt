@@ -1,5 +1,7 @@
 pub mod Lowering
 pub mod Memory
+pub mod Machine
+pub mod Host
 pub mod Stands
 pub mod Steps
 pub mod Parts

@@ -1,5 +1,5 @@
 -- How operations of the Direct3D machine become batches of the Vulkan machine.
-use Rattle.std.specs.Prelude.{ℕ, zero, suc, ◌≡◌, ◌<◌, ◌+◌, ◌-◌, ◌/◌, ◌==◌, ◌&&◌, ◌⊎◌, not, nat_lt, bit_or, List, [], ◌∷◌, ◌++◌, length, map, take, slice_get, Option, Some, None, Bool, false, if◌then◌else◌}
+use Rattle.std.specs.Prelude.{ℕ, zero, suc, ◌≡◌, ◌<◌, ◌+◌, ◌-◌, ◌/◌, ◌==◌, ◌&&◌, not, nat_lt, bit_or, List, [], ◌∷◌, ◌++◌, length, map, take, slice_get, Option, Some, None, Bool, false, if◌then◌else◌}
 use Rattle.d3d_machine.specs.declared.world.World.{World}
 use Rattle.d3d_machine.specs.declared.world.Resource.{Resource}
 use Rattle.d3d_machine.specs.declared.world.Resource.TheVariants.{Buffer}

@@ -1,27 +1,22 @@
 -- What contracts see of the system's parts, and how each kind of step changes them.
-use Rattle.std.specs.Prelude.{ℕ, ◌≡◌, ◌≤◌, ◌+◌, ◌-◌, ◌==◌, List, [], ◌∷◌, ◌++◌, length, map, drop, slice_get, Option, Some, None, Bool, if◌then◌else◌}
+use Rattle.std.specs.Prelude.{ℕ, ◌≡◌, ◌≤◌, ◌+◌, ◌-◌, ◌==◌, List, [], ◌∷◌, ◌++◌, length, drop, slice_get, Option, Some, None, Bool, if◌then◌else◌}
 use Rattle.std.specs.Option.{option_map}
 use Rattle.dx_base.specs.Lists.{changed_at}
 use Rattle.dx_base.specs.Roomy.{Roomy}
 use Rattle.dx_base.specs.Effects.{At, changed_by}
 use Rattle.d3d_machine.specs.declared.world.World.{World}
 use Rattle.d3d_machine.specs.declared.calls.Call.{Call}
-use Rattle.d3d_machine.specs.declared.calls.Reply.{Reply}
 use Rattle.d3d_machine.specs.declared.events.Listed.{Listed}
 use Rattle.d3d_machine.specs.declared.events.Operation.{Operation}
 use Rattle.d3d_machine.specs.declared.events.Operation.TheVariants as operation
 use Rattle.d3d_machine.specs.CallEffects.{does}
-use Rattle.d3d_machine.specs.State.{State}
-use Rattle.d3d_machine.specs.Replies.{refusal_by, reply_or, good_reply}
-use Rattle.d3d_machine.specs.Effects.{with_one, operation_given, changed, memory_by, done}
+use Rattle.d3d_machine.specs.Effects.{with_one, operation_given, changed, done}
 use Rattle.d3d_machine.specs.Fences.{is_met}
-use Rattle.vk_port.specs.VkState.{VkState}
 use Rattle.sys_core.specs.declared.parts.Armed.{Armed}
 use Rattle.sys_core.specs.declared.parts.Seat.{Seat}
 use Rattle.sys_core.specs.declared.parts.Signalled.{Signalled}
 use Rattle.sys_core.specs.declared.parts.Held.{Held}
-use Rattle.sys_core.specs.Memory.{memory_of, device_words}
-use Rattle.d3d_machine.specs.Past.{WaitSince, PlaceSince, updates_at, last_of}
+use Rattle.d3d_machine.specs.Past.{WaitSince, PlaceSince, updates_at}
 
 -- a queue: its operations that are not submitted, how many are, the last submitted signal's number, and the
 -- submitted signals that have not completed
@@ -47,21 +42,9 @@ queued x = record { operations = x.operations.items; submitted = x.submitted; la
 abbrev pub updates_in : Roomy ℕ → List ℕ
 updates_in r = r.items
 
--- the state that the lists, the fences' last updates and the device's words give
-abbrev pub state_by : World → List Listed → List (List ℕ) → VkState → State
-state_by w lists fences v = record { desk = record { fences = map last_of fences; called = []; lists = lists; threads = [] }; memory = memory_of w v.words }
-
--- the reply of a call, by the lists, the fences' last updates and the device's words
-abbrev pub reply_by : World → List Listed → List (List ℕ) → VkState → Call → Reply
-reply_by w lists fences v c = reply_or (refusal_by w lists c) (good_reply (state_by w lists fences v) c)
-
 -- the lists after a call
 abbrev pub lists_by : World → List Listed → Call → List Listed
 lists_by w lists c = changed_by (changed w) (done w lists c).list lists
-
--- the device after a call: a host write that is not refused stores its words
-abbrev pub device_by : World → List Listed → VkState → Call → VkState
-device_by w lists v c = record v { words = device_words w (memory_by (done w lists c).stores (memory_of w v.words)) }
 
 -- the place of a thread, in the past's words
 abbrev pub wait_since : Armed → WaitSince

@@ -1,5 +1,5 @@
 -- How many steps lead to a state of the system.
-use Rattle.std.specs.Prelude.{ℕ, ◌≡◌, ◌+◌, ◌<◌, nat_lt, List, [], ◌∷◌, length, if◌then◌else◌}
+use Rattle.std.specs.Prelude.{ℕ, ◌≡◌, ◌+◌, nat_lt, List, [], ◌∷◌, length, if◌then◌else◌}
 use Rattle.dx_base.specs.declared.steps.Step.{Step}
 use Rattle.dx_base.specs.declared.steps.Step.TheVariants as step
 use Rattle.d3d_machine.specs.declared.world.World.{World}

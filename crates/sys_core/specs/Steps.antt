@@ -8,22 +8,23 @@ use Rattle.d3d_machine.specs.declared.world.World.{World}
 use Rattle.d3d_machine.specs.declared.calls.Call.{Call}
 use Rattle.d3d_machine.specs.declared.events.Event.{Event}
 use Rattle.d3d_machine.specs.declared.events.Event.TheVariants as event
-use Rattle.d3d_machine.specs.State.{Waiting, Place, State, place_of, script_of, next_call}
-use Rattle.d3d_machine.specs.Replies.{reply_of}
-use Rattle.d3d_machine.specs.Effects.{memory_after}
+use Rattle.d3d_machine.specs.State.{Place, place_of, script_of}
 use Rattle.d3d_machine.specs.Play.{state_after}
 use Rattle.d3d_machine.specs.declared.events.Operation.{Operation}
 use Rattle.d3d_machine.specs.Operations.{operations}
 use Rattle.vk_port.specs.declared.steps.Stepped.{Stepped}
 use Rattle.vk_port.specs.declared.steps.Stepped.TheVariants as stepped
 use Rattle.vk_types.specs.declared.batches.Batch.{Batch}
+use Rattle.vk_types.specs.declared.steps.VkStep.TheVariants.{Submit}
+use Rattle.vk_sync_rules.specs.Rules.{after_step as after_vk_step}
+use Rattle.vk_sync_rules.specs.VkState.{VkState as Machine}
 use Rattle.vk_port.specs.Journal.{next_number}
+use Rattle.vk_port.specs.Machine.{after_stepped}
 use Rattle.vk_port.specs.Offers.{steps_offered}
 use Rattle.vk_port.specs.VkState.{VkState}
 use Rattle.vk_port.specs.After.{after_submit, after_step}
 use Rattle.vk_port.specs.Enabled.{enabled_steps}
 use Rattle.sys_core.specs.Lowering.{lowered}
-use Rattle.sys_core.specs.Memory.{memory_of, device_words}
 
 -- a thread's step is enabled where it does not wait and its script has a next call, or its wait is met
 abbrev pub is_ready_place : List Call → Place → Bool
@@ -71,27 +72,6 @@ CanBeTaken w h v free (step.Thread t) = (t < length w.scripts) × (is_ready_thre
 CanBeTaken w h v free (step.Worker q) = (q < length w.queues) × (is_ready_worker w h v q ≡ true)
 CanBeTaken w h v free (step.Device k) = k < steps_offered v free
 
--- the Direct3D state of a history, with the words that the device has
-abbrev pub seen_state : World → List Event → VkState → State
-seen_state w h v = record { desk = (state_after w h).desk; memory = memory_of w v.words }
-
--- the event of a call that a thread has next; a read gives the words that the device has
-abbrev pub call_event : World → State → ℕ → Option Call → Event
-call_event w s t None = event.Awake (record { 0 = t })
-call_event w s t (Some c) = event.Call (record { 0 = t }) c (reply_of w s c)
-
-abbrev pub place_event : World → State → ℕ → Option Waiting → Event
-place_event w s t None = call_event w s t (next_call w s.desk t)
-place_event w s t (Some x) = event.Awake (record { 0 = t })
-
--- the event of a thread's step
-abbrev pub thread_event : World → List Event → VkState → ℕ → Event
-thread_event w h v t = place_event w (seen_state w h v) t (place_of (state_after w h).desk t).waits
-
--- the device after an event of a thread: a host write that is not refused stores its words
-abbrev pub after_event : World → List Event → VkState → Event → VkState
-after_event w h v e = record v { words = device_words w (memory_after w (seen_state w h v) e) }
-
 -- the event of a device's step: the end of an operation's batch completes the operation
 abbrev pub step_events : Stepped → List Event
 step_events (stepped.Passed q n) = []
@@ -112,10 +92,16 @@ abbrev pub after_submits : VkState → List Batch → VkState
 after_submits v [] = v
 after_submits v (b ∷ bs) = after_submits (after_submit v b) bs
 
+-- and its machine
+abbrev pub after_vk_submits : Machine → List Batch → Machine
+after_vk_submits m [] = m
+after_vk_submits m (b ∷ bs) = after_vk_submits (after_vk_step m (Submit b)) bs
+
 -- a step of the device: of the Vulkan machine where its place is one of that machine's steps, else a free one
-pub record IsDeviceStep (h after : List Event) (v u : VkState) (k : ℕ) : Type 0 where
+pub record IsDeviceStep (h after : List Event) (v u : VkState) (m n : Machine) (k : ℕ) : Type 0 where
   pub step : Stepped
   pub named : k < length (enabled_steps v) → slice_get (enabled_steps v) k ≡ Some step
   pub free : length (enabled_steps v) ≤ k → step ≡ stepped.Free
   pub state : u ≡ after_step v step
+  pub machine : n ≡ after_stepped m step []
   pub history : after ≡ h ++ step_events step

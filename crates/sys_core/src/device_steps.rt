@@ -78,13 +78,14 @@ pub(crate) fn device_step<D: VkDevice>(
     device: &mut D,
     k: usize,
 ) -> Result<(), SysFault>
-    requires keeps { Keeps D.state D.plan_of world.now history.old.items parts.old device.old }
+    requires keeps { Keeps D.state D.machine D.plan_of world.now history.old.items parts.old device.old }
     requires offered { k < steps_offered (D.state device.old) (D.offered device.old) }
-    ensures keeps { Keeps D.state D.plan_of world.now history.new.items parts.new device.new }
-    ensures step { OnOk result (IsDeviceStep history.old.items history.new.items (D.state device.old) (D.state device.new) k) }
+    ensures keeps { Keeps D.state D.machine D.plan_of world.now history.new.items parts.new device.new }
+    ensures step { OnOk result (IsDeviceStep history.old.items history.new.items (D.state device.old) (D.state device.new) (D.machine device.old) (D.machine device.new) k) }
     ensures rest { OnOk result (D.rest_of device.old ≡ D.rest_of device.new + rest_used (D.state device.old) (step.Device k)) }
     ensures same { OnErr result (history.new.items ≡ history.old.items) }
     ensures same_state { OnErr result (D.state device.new ≡ D.state device.old) }
+    ensures same_machine { OnErr result (D.machine device.new ≡ D.machine device.old) }
     ensures same_rest { OnErr result (D.rest_of device.new ≡ D.rest_of device.old) }
     ensures faults { D.faults device.old ≤ D.faults device.new }
     ensures cause { HasCause (D.faults device.old) (D.faults device.new) result }

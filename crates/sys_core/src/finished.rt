@@ -70,7 +70,7 @@ pub(crate) fn is_finished<D: VkDevice>(
     parts: &Parts,
     device: &D,
 ) -> bool
-    requires keeps { Keeps D.state D.plan_of world.now history.now.items parts.now device.now }
+    requires keeps { Keeps D.state D.machine D.plan_of world.now history.now.items parts.now device.now }
     ensures yes { result ≡ true → IsFinished world.now (state_after world.now history.now.items).desk }
     ensures no { result ≡ false → IsFinished world.now (state_after world.now history.now.items).desk → ⊥ }
 {

@@ -66,7 +66,7 @@ pub(crate) fn count_steps<D: VkDevice>(
     parts: &Parts,
     device: &D,
 ) -> usize
-    requires keeps { Keeps D.state D.plan_of world.now history.now.items parts.now device.now }
+    requires keeps { Keeps D.state D.machine D.plan_of world.now history.now.items parts.now device.now }
     ensures count { result ≡ length (enabled_of world.now history.now.items Clean (D.state device.now) (D.offered device.now)) }
     ensures none_at_rest { D.rest_of device.now ≡ 0 → D.offered device.now ≡ 0 }
 {
@@ -121,7 +121,7 @@ pub(crate) fn nth_step<D: VkDevice>(
     device: &D,
     k: usize,
 ) -> Step
-    requires keeps { Keeps D.state D.plan_of world.now history.now.items parts.now device.now }
+    requires keeps { Keeps D.state D.machine D.plan_of world.now history.now.items parts.now device.now }
     requires within { k < length (enabled_of world.now history.now.items Clean (D.state device.now) (D.offered device.now)) }
     ensures { slice_get (enabled_of world.now history.now.items Clean (D.state device.now) (D.offered device.now)) k ≡ Some result }
 {

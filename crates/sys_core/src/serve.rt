@@ -1,22 +1,24 @@
 //! Serving a call: by the lists, by the held operations, or by the device.
 
-ghost use Rattle.std.specs.Prelude.{◌≡◌, ◌<◌, ◌≤◌, ◌/◌, map, length, true, Some, None, IfOk, OnOk, OnErr, IsSome};
-ghost use Rattle.dx_base.specs.Lists.{changed_at, put, range_of};
+ghost use Rattle.std.specs.Prelude.{◌≡◌, ◌<◌, ◌≤◌, ◌/◌, [], map, length, true, Some, None, IfOk, OnOk, OnErr, IsSome};
+ghost use Rattle.dx_base.specs.Effects.{at, unless};
+ghost use Rattle.dx_base.specs.Lists.{range_of};
 ghost use Rattle.std.specs.Result.{result_err};
-ghost use Rattle.d3d_machine.specs.declared.calls.Call.TheVariants.{Recording as recording_call, Close as close_call, Reset as reset_call, Execute as execute_call, Signal as signal_call, HostSignal as host_signal_call, Write as write_call};
+ghost use Rattle.d3d_machine.specs.declared.calls.Call.TheVariants.{Recording as recording_call, Close as close_call, Reset as reset_call, Execute as execute_call, Signal as signal_call, HostSignal as host_signal_call};
 ghost use Rattle.d3d_machine.specs.declared.calls.Reply.TheVariants.{Done as done, Words as words_reply};
 ghost use Rattle.d3d_machine.specs.World.{is_named};
 ghost use Rattle.d3d_machine.specs.State.{words_at};
 ghost use Rattle.d3d_machine.specs.Replies.{reply_or};
-ghost use Rattle.d3d_machine.specs.Effects.{memory_or};
 ghost use Rattle.d3d_machine.specs.Lists.{record_refusal, close_refusal, reset_refusal, execute_refusal};
 ghost use Rattle.d3d_machine.specs.Checks.{write_refusal as refusal_of_write, read_refusal as refusal_of_read};
 ghost use Rattle.vk_port.specs.Offers.{IsInside};
-ghost use Rattle.vk_port.specs.VkState.{VkState};
-ghost use Rattle.sys_core.specs.Lowering.{AreNumbers};
-ghost use Rattle.sys_core.specs.Memory.{memory_of, device_words};
-ghost use Rattle.sys_core.specs.Parts.{queued, updates_in, reply_by, device_by};
-ghost use Rattle.sys_core.specs.Serving.{HasBuffers, Serves, StaysParts, HasCause};
+ghost use Rattle.vk_types.specs.declared.steps.VkStep.TheVariants.{HostWrite, HostRead};
+ghost use Rattle.vk_sync_rules.specs.Rules.{after_step};
+ghost use Rattle.sys_core.specs.Lowering.{AreNumbers, plan_number};
+ghost use Rattle.sys_core.specs.Machine.{HasBuffers};
+ghost use Rattle.sys_core.specs.Host.{Answers, IsRead, IsReply, after_call, after_load, after_store, told_words};
+ghost use Rattle.sys_core.specs.Parts.{queued, updates_in};
+ghost use Rattle.sys_core.specs.Serving.{Serves, StaysParts, HasCause};
 
 use crate::faults::SysFault;
 use crate::fences::{push_update, reserve_update_of, value_of};
@@ -28,7 +30,7 @@ use std::alloc::Global;
 use vk_port::VkDevice;
 
 /// A host write that is not refused.
-#[tactic(auto, using(crate::proofs::Inside::write_inside, crate::proofs::Inside::write_small, crate::proofs::Inside::write_there, crate::proofs::Inside::write_seen))]
+#[tactic(auto, using(crate::proofs::Inside::write_inside, crate::proofs::Inside::write_small, crate::proofs::Inside::write_there))]
 fn write_words<D: VkDevice>(
     world: &World,
     numbers: &Seq<u32>,
@@ -39,10 +41,11 @@ fn write_words<D: VkDevice>(
 ) -> Result<(), SysFault>
     requires plan { IsSome (D.plan_of device.old) }
     requires numbers { AreNumbers world.now.resources numbers.now }
-    requires buffers { HasBuffers world.now (D.state device.old) }
+    requires buffers { HasBuffers world.now (D.machine device.old) }
     requires good { refusal_of_write world.now buffer.0 offset (length words.now) ≡ None }
-    ensures state { OnOk result (D.state device.new ≡ record (D.state device.old) { words = device_words world.now (changed_at (put (offset / 4) words.now) buffer.0 (memory_of world.now (D.state device.old).words)) }) }
-    ensures same { OnErr result (D.state device.new ≡ D.state device.old) }
+    ensures machine { OnOk result (D.machine device.new ≡ after_step (D.machine device.old) (HostWrite (plan_number world.now buffer.0) (offset / 4) words.now)) }
+    ensures same { OnErr result (D.machine device.new ≡ D.machine device.old) }
+    ensures state { D.state device.new ≡ D.state device.old }
     ensures plan { D.plan_of device.new ≡ D.plan_of device.old }
     ensures rest { D.rest_of device.new ≡ D.rest_of device.old }
     ensures faults { D.faults device.old ≤ D.faults device.new }
@@ -54,7 +57,7 @@ fn write_words<D: VkDevice>(
 }
 
 /// A host read that is not refused.
-#[tactic(auto, using(crate::proofs::Inside::read_inside, crate::proofs::Inside::read_small, crate::proofs::Inside::read_count_small, crate::proofs::Inside::read_there, crate::proofs::Inside::read_seen))]
+#[tactic(auto, using(crate::proofs::Inside::read_inside, crate::proofs::Inside::read_small, crate::proofs::Inside::read_count_small, crate::proofs::Inside::read_there))]
 fn read_words<D: VkDevice>(
     world: &World,
     numbers: &Seq<u32>,
@@ -65,9 +68,11 @@ fn read_words<D: VkDevice>(
 ) -> Result<Reply, SysFault>
     requires plan { IsSome (D.plan_of device.old) }
     requires numbers { AreNumbers world.now.resources numbers.now }
-    requires buffers { HasBuffers world.now (D.state device.old) }
+    requires buffers { HasBuffers world.now (D.machine device.old) }
     requires good { refusal_of_read world.now buffer.0 offset bytes ≡ None }
-    ensures words { IfOk result (λ reply. reply ≡ words_reply (range_of (offset / 4) (bytes / 4) (words_at (memory_of world.now (D.state device.old).words) buffer.0))) }
+    ensures words { IfOk result (λ reply. IsRead world.now (D.machine device.old) (record { place = buffer.0; what = (offset / 4, bytes / 4) }) reply) }
+    ensures machine { IfOk result (λ reply. D.machine device.new ≡ after_step (D.machine device.old) (HostRead (plan_number world.now buffer.0) (offset / 4) (told_words reply))) }
+    ensures same { OnErr result (D.machine device.new ≡ D.machine device.old) }
     ensures state { D.state device.new ≡ D.state device.old }
     ensures plan { D.plan_of device.new ≡ D.plan_of device.old }
     ensures rest { D.rest_of device.new ≡ D.rest_of device.old }
@@ -91,10 +96,11 @@ fn serve_write<D: VkDevice>(
 ) -> Result<Reply, SysFault>
     requires plan { IsSome (D.plan_of device.old) }
     requires numbers { AreNumbers world.now.resources numbers.now }
-    requires buffers { HasBuffers world.now (D.state device.old) }
+    requires buffers { HasBuffers world.now (D.machine device.old) }
     ensures reply { IfOk result (λ reply. reply ≡ reply_or (refusal_of_write world.now buffer.0 offset (length words.now)) done) }
-    ensures state { OnOk result (D.state device.new ≡ device_by world.now lists.now (D.state device.old) (write_call buffer offset words.now)) }
-    ensures same { OnErr result (D.state device.new ≡ D.state device.old) }
+    ensures machine { OnOk result (D.machine device.new ≡ after_store world.now (D.machine device.old) (unless (at buffer.0 (offset / 4, words.now)) (refusal_of_write world.now buffer.0 offset (length words.now)))) }
+    ensures same { OnErr result (D.machine device.new ≡ D.machine device.old) }
+    ensures state { D.state device.new ≡ D.state device.old }
     ensures plan { D.plan_of device.new ≡ D.plan_of device.old }
     ensures rest { D.rest_of device.new ≡ D.rest_of device.old }
     ensures faults { D.faults device.old ≤ D.faults device.new }
@@ -121,8 +127,10 @@ fn serve_read<D: VkDevice>(
 ) -> Result<Reply, SysFault>
     requires plan { IsSome (D.plan_of device.old) }
     requires numbers { AreNumbers world.now.resources numbers.now }
-    requires buffers { HasBuffers world.now (D.state device.old) }
-    ensures reply { IfOk result (λ reply. reply ≡ reply_or (refusal_of_read world.now buffer.0 offset bytes) (words_reply (range_of (offset / 4) (bytes / 4) (words_at (memory_of world.now (D.state device.old).words) buffer.0)))) }
+    requires buffers { HasBuffers world.now (D.machine device.old) }
+    ensures reply { IfOk result (λ reply. Answers world.now (D.machine device.old) (unless (at buffer.0 (offset / 4, bytes / 4)) (refusal_of_read world.now buffer.0 offset bytes)) (reply_or (refusal_of_read world.now buffer.0 offset bytes) (words_reply (range_of (offset / 4) (bytes / 4) (words_at [] buffer.0)))) reply) }
+    ensures machine { IfOk result (λ reply. D.machine device.new ≡ after_load world.now (D.machine device.old) (unless (at buffer.0 (offset / 4, bytes / 4)) (refusal_of_read world.now buffer.0 offset bytes)) reply) }
+    ensures same { OnErr result (D.machine device.new ≡ D.machine device.old) }
     ensures state { D.state device.new ≡ D.state device.old }
     ensures plan { D.plan_of device.new ≡ D.plan_of device.old }
     ensures rest { D.rest_of device.new ≡ D.rest_of device.old }
@@ -241,7 +249,7 @@ fn serve_reset(world: &World, parts: &mut Parts, list: ListId, allocator: Alloca
 }
 
 /// Serves a call of a thread that does not wait. The beginning of a wait is left to its caller.
-#[tactic(auto, using(crate::proofs::Serving::device_stays, crate::proofs::Serving::value_seen))]
+#[tactic(auto, using(crate::proofs::Serving::value_seen))]
 pub(crate) fn serve<D: VkDevice>(
     alloc: Global,
     world: &World,
@@ -251,15 +259,16 @@ pub(crate) fn serve<D: VkDevice>(
 ) -> Result<Reply, SysFault>
     requires plan { IsSome (D.plan_of device.old) }
     requires numbers { AreNumbers world.now.resources parts.old.numbers }
-    requires buffers { HasBuffers world.now (D.state device.old) }
+    requires buffers { HasBuffers world.now (D.machine device.old) }
     requires queues { length parts.old.held ≡ length world.now.queues }
     requires lists { length parts.old.lists ≡ length world.now.lists }
     requires named { is_named world.now call.now ≡ true }
-    ensures reply { IfOk result (λ reply. reply ≡ reply_by world.now parts.old.lists (map updates_in parts.old.fences) (D.state device.old) call.now) }
+    ensures reply { IfOk result (λ reply. IsReply world.now parts.old.lists (map updates_in parts.old.fences) (D.machine device.old) call.now reply) }
     ensures parts { OnOk result (Serves world.now call.now parts.old parts.new) }
-    ensures state { OnOk result (D.state device.new ≡ device_by world.now parts.old.lists (D.state device.old) call.now) }
+    ensures machine { IfOk result (λ reply. D.machine device.new ≡ after_call world.now parts.old.lists (D.machine device.old) call.now reply) }
+    ensures state { D.state device.new ≡ D.state device.old }
     ensures same_parts { OnErr result (StaysParts parts.old parts.new) }
-    ensures same_state { OnErr result (D.state device.new ≡ D.state device.old) }
+    ensures same_machine { OnErr result (D.machine device.new ≡ D.machine device.old) }
     ensures plan { D.plan_of device.new ≡ D.plan_of device.old }
     ensures rest { D.rest_of device.new ≡ D.rest_of device.old }
     ensures faults { D.faults device.old ≤ D.faults device.new }

@@ -7,12 +7,12 @@ ghost use Rattle.dx_base.specs.declared.steps.Step.TheVariants as step;
 ghost use Rattle.sys_core.specs.Ahead.{IsWhole};
 ghost use Rattle.sys_core.specs.Goes.{WasTaken, AreRefusalsIdle, Stays, state_of};
 ghost use Rattle.sys_core.specs.Keeps.{Keeps, IsSystem};
-ghost use Rattle.sys_core.specs.Opened.{opened, IsUnopened};
+ghost use Rattle.sys_core.specs.Opened.{opened, opened_machine, IsUnopened};
 ghost use Rattle.sys_core.specs.Over.{IsOver};
 ghost use Rattle.sys_core.specs.Serving.{HasCause, HasFaultCause};
 ghost use Rattle.sys_core.specs.Lowering.{plan_of_world, opening_batches, startup};
 ghost use Rattle.verdicts.specs.declared.rules.Verdict.TheVariants.{Clean};
-ghost use Rattle.sys_core.specs.Steps.{after_submits, enabled_of, is_ready_thread, is_ready_worker};
+ghost use Rattle.sys_core.specs.Steps.{after_submits, after_vk_submits, enabled_of, is_ready_thread, is_ready_worker};
 ghost use Rattle.vk_port.specs.Offers.{steps_offered};
 ghost use Rattle.vk_port.specs.VkState.{first_state};
 
@@ -51,7 +51,7 @@ impl<D: VkDevice> Model for Sys<D> {
 
     ghost view = { λ s. record { world = s.world; history = s.history.items; device = s.device } };
 
-    ghost invariant = { λ s. IsSys D.state D.plan_of D.rest_of D.offered s.world s.history.items s.parts s.device s.enabled };
+    ghost invariant = { λ s. IsSys D.state D.machine D.plan_of D.rest_of D.offered s.world s.history.items s.parts s.device s.enabled };
 }
 
 /// Submits the start-up batch, where there is a queue.
@@ -60,7 +60,9 @@ fn submit_startup<D: VkDevice>(world: &World, device: &mut D, batch: Batch) -> R
     requires objects { D.state device.old ≡ first_state (plan_of_world world.now) }
     requires batch { batch ≡ startup world.now }
     ensures state { OnOk result (D.state device.new ≡ after_submits (D.state device.old) (opening_batches world.now)) }
+    ensures machine { OnOk result (D.machine device.new ≡ after_vk_submits (D.machine device.old) (opening_batches world.now)) }
     ensures same { OnErr result (D.state device.new ≡ D.state device.old) }
+    ensures same_machine { OnErr result (D.machine device.new ≡ D.machine device.old) }
     ensures plan { D.plan_of device.new ≡ D.plan_of device.old }
     ensures rest { D.rest_of device.new ≡ D.rest_of device.old }
     ensures faults { D.faults device.old ≤ D.faults device.new }
@@ -78,12 +80,13 @@ fn begin<D: VkDevice>(alloc: Global, world: &World, device: &mut D) -> Result<Pa
     requires world { IsWorld world.now }
     requires no_plan { D.plan_of device.old ≡ None }
     requires new { (D.state device.old).journal ≡ [] }
-    ensures keeps { IfOk result (λ parts. Keeps D.state D.plan_of world.now [] parts device.new) }
-    ensures whole { OnOk result (IsWhole world.now [] (D.state device.new)) }
+    ensures keeps { IfOk result (λ parts. Keeps D.state D.machine D.plan_of world.now [] parts device.new) }
+    ensures whole { OnOk result (IsWhole world.now [] (D.state device.new) (D.machine device.new)) }
     ensures opened { OnOk result (D.state device.new ≡ opened world.now) }
+    ensures machine { OnOk result (D.machine device.new ≡ opened_machine world.now) }
     ensures rest { D.rest_of device.new ≡ D.rest_of device.old }
     ensures no_batch { OnErr result ((D.state device.new).journal ≡ []) }
-    ensures unopened { OnErr result (IsUnopened world.now (D.plan_of device.new) (D.state device.new)) }
+    ensures unopened { OnErr result (IsUnopened world.now (D.plan_of device.new) (D.state device.new) (D.machine device.new)) }
     ensures faults { D.faults device.old ≤ D.faults device.new }
     ensures cause { HasCause (D.faults device.old) (D.faults device.new) result }
 {
@@ -98,10 +101,10 @@ fn begin<D: VkDevice>(alloc: Global, world: &World, device: &mut D) -> Result<Pa
 /// Looks at what came for the waits of threads, and counts the steps that can be taken.
 #[tactic(auto, using(crate::proofs::Keeping::keeps_searched))]
 fn settle<D: VkDevice>(world: &World, history: &Room<Event>, parts: &mut Parts, device: &D) -> usize
-    requires { Keeps D.state D.plan_of world.now history.now.items parts.old device.now }
+    requires { Keeps D.state D.machine D.plan_of world.now history.now.items parts.old device.now }
     ensures count { result ≡ length (enabled_of world.now history.now.items Clean (D.state device.now) (D.offered device.now)) }
     ensures none_at_rest { D.rest_of device.now ≡ 0 → D.offered device.now ≡ 0 }
-    ensures keeps { Keeps D.state D.plan_of world.now history.now.items parts.new device.now }
+    ensures keeps { Keeps D.state D.machine D.plan_of world.now history.now.items parts.new device.now }
 {
     search_waits(&mut parts.seats, &parts.fences);
     count_steps(world, history, parts, device)
@@ -118,12 +121,13 @@ impl<D: VkDevice> Sys<D> {
         ensures world { IfOk result (λ sys. sys.world ≡ world) }
         ensures history { IfOk result (λ sys. sys.history ≡ []) }
         ensures opened { IfOk result (λ sys. D.state sys.device ≡ opened world) }
-        ensures system { IfOk result (λ sys. IsSystem sys.world sys.history (D.state sys.device)) }
-        ensures whole { IfOk result (λ sys. IsWhole sys.world sys.history (D.state sys.device)) }
+        ensures machine { IfOk result (λ sys. D.machine sys.device ≡ opened_machine world) }
+        ensures system { IfOk result (λ sys. IsSystem sys.world sys.history (D.state sys.device) (D.machine sys.device)) }
+        ensures whole { IfOk result (λ sys. IsWhole sys.world sys.history (D.state sys.device) (D.machine sys.device)) }
         ensures rest { IfOk result (λ sys. D.rest_of sys.device ≡ D.rest_of device) }
         ensures faults { IfOk result (λ sys. D.faults device ≤ D.faults sys.device) }
         ensures no_batch { IfErr result (λ p. (D.state p.0).journal ≡ []) }
-        ensures unopened { IfErr result (λ p. IsUnopened world (D.plan_of p.0) (D.state p.0)) }
+        ensures unopened { IfErr result (λ p. IsUnopened world (D.plan_of p.0) (D.state p.0) (D.machine p.0)) }
         ensures rest_back { IfErr result (λ p. D.rest_of p.0 ≡ D.rest_of device) }
         ensures faults_back { IfErr result (λ p. D.faults device ≤ D.faults p.0) }
         ensures cause { IfErr result (λ p. HasFaultCause p.1 (D.faults device) (D.faults p.0)) }
@@ -167,11 +171,11 @@ impl<D: VkDevice> Sys<D> {
     /// has no other effect. Refused, all stays.
     pub fn thread_step(&mut self, thread: ThreadId) -> Result<(), SysFault>
         requires { is_ready_thread self.old.world self.old.history thread.0 ≡ true }
-        ensures taken { OnOk result (WasTaken D.state D.rest_of (step.Thread thread.0) self.old self.new) }
-        ensures refusals { OnOk result (AreRefusalsIdle self.old.world (state_of D.state self.old) (state_of D.state self.new)) }
-        ensures system { IsSystem self.new.world self.new.history (D.state self.new.device) }
-        ensures whole { IsWhole self.new.world self.new.history (D.state self.new.device) }
-        ensures stays { OnErr result (Stays D.state D.rest_of self.old self.new) }
+        ensures taken { OnOk result (WasTaken D.state D.machine D.rest_of (step.Thread thread.0) self.old self.new) }
+        ensures refusals { OnOk result (AreRefusalsIdle self.old.world (state_of D.state D.machine self.old) (state_of D.state D.machine self.new)) }
+        ensures system { IsSystem self.new.world self.new.history (D.state self.new.device) (D.machine self.new.device) }
+        ensures whole { IsWhole self.new.world self.new.history (D.state self.new.device) (D.machine self.new.device) }
+        ensures stays { OnErr result (Stays D.state D.machine D.rest_of self.old self.new) }
         ensures faults { D.faults self.old.device ≤ D.faults self.new.device }
         ensures cause { HasCause (D.faults self.old.device) (D.faults self.new.device) result }
     {
@@ -191,10 +195,10 @@ impl<D: VkDevice> Sys<D> {
     pub fn worker_step(&mut self, queue: QueueId) -> Result<(), SysFault>
         requires queue { queue.0 < length self.old.world.queues }
         requires ready { is_ready_worker self.old.world self.old.history (D.state self.old.device) queue.0 ≡ true }
-        ensures taken { OnOk result (WasTaken D.state D.rest_of (step.Worker queue.0) self.old self.new) }
-        ensures system { IsSystem self.new.world self.new.history (D.state self.new.device) }
-        ensures whole { IsWhole self.new.world self.new.history (D.state self.new.device) }
-        ensures stays { OnErr result (Stays D.state D.rest_of self.old self.new) }
+        ensures taken { OnOk result (WasTaken D.state D.machine D.rest_of (step.Worker queue.0) self.old self.new) }
+        ensures system { IsSystem self.new.world self.new.history (D.state self.new.device) (D.machine self.new.device) }
+        ensures whole { IsWhole self.new.world self.new.history (D.state self.new.device) (D.machine self.new.device) }
+        ensures stays { OnErr result (Stays D.state D.machine D.rest_of self.old self.new) }
         ensures faults { D.faults self.old.device ≤ D.faults self.new.device }
         ensures cause { HasCause (D.faults self.old.device) (D.faults self.new.device) result }
     {
@@ -213,10 +217,10 @@ impl<D: VkDevice> Sys<D> {
     /// A step of the device, of that place among those that it offers, counted from 0. Refused, all stays.
     pub fn device_step(&mut self, k: usize) -> Result<(), SysFault>
         requires { k < steps_offered (D.state self.old.device) (D.offered self.old.device) }
-        ensures taken { OnOk result (WasTaken D.state D.rest_of (step.Device k) self.old self.new) }
-        ensures system { IsSystem self.new.world self.new.history (D.state self.new.device) }
-        ensures whole { IsWhole self.new.world self.new.history (D.state self.new.device) }
-        ensures stays { OnErr result (Stays D.state D.rest_of self.old self.new) }
+        ensures taken { OnOk result (WasTaken D.state D.machine D.rest_of (step.Device k) self.old self.new) }
+        ensures system { IsSystem self.new.world self.new.history (D.state self.new.device) (D.machine self.new.device) }
+        ensures whole { IsWhole self.new.world self.new.history (D.state self.new.device) (D.machine self.new.device) }
+        ensures stays { OnErr result (Stays D.state D.machine D.rest_of self.old self.new) }
         ensures faults { D.faults self.old.device ≤ D.faults self.new.device }
         ensures cause { HasCause (D.faults self.old.device) (D.faults self.new.device) result }
     {
@@ -234,7 +238,7 @@ impl<D: VkDevice> Sys<D> {
     /// How far the system has come.
     pub fn over(&self) -> Over
         ensures over { IsOver self.now.world self.now.history Clean (D.state self.now.device) (D.offered self.now.device) result }
-        ensures system { IsSystem self.now.world self.now.history (D.state self.now.device) }
+        ensures system { IsSystem self.now.world self.now.history (D.state self.now.device) (D.machine self.now.device) }
     {
         if is_finished(&self.world, &self.history, &self.parts, &self.device) {
             Over::Done

@@ -6,7 +6,8 @@ ghost use Rattle.d3d_machine.specs.State.{script_of};
 ghost use Rattle.std.specs.Prelude.{◌+◌, ◌^◌};
 ghost use Rattle.sys_core.specs.declared.parts.Seat.{Seat};
 ghost use Rattle.sys_core.specs.Parts.{updates_in, seat_after, woken_seat};
-ghost use Rattle.sys_core.specs.Steps.{is_ready_thread, thread_event, after_event};
+ghost use Rattle.sys_core.specs.Steps.{is_ready_thread};
+ghost use Rattle.sys_core.specs.ThreadSteps.{IsThreadStep};
 ghost use Rattle.sys_core.specs.Serving.{HasCause};
 ghost use Rattle.sys_core.specs.Keeps.{Keeps, ready_by};
 ghost use Rattle.sys_core.specs.WaitSearches.{AreSearched};
@@ -68,13 +69,13 @@ pub(crate) fn thread_step<D: VkDevice>(
     device: &mut D,
     thread: ThreadId,
 ) -> Result<(), SysFault>
-    requires keeps { Keeps D.state D.plan_of world.now history.old.items parts.old device.old }
+    requires keeps { Keeps D.state D.machine D.plan_of world.now history.old.items parts.old device.old }
     requires ready { is_ready_thread world.now history.old.items thread.0 ≡ true }
-    ensures keeps { Keeps D.state D.plan_of world.now history.new.items parts.new device.new }
-    ensures event { OnOk result (history.new.items ≡ history.old.items ++ thread_event world.now history.old.items (D.state device.old) thread.0 ∷ []) }
-    ensures state { OnOk result (D.state device.new ≡ after_event world.now history.old.items (D.state device.old) (thread_event world.now history.old.items (D.state device.old) thread.0)) }
+    ensures keeps { Keeps D.state D.machine D.plan_of world.now history.new.items parts.new device.new }
+    ensures step { OnOk result (IsThreadStep world.now history.old.items history.new.items (D.state device.old) (D.state device.new) (D.machine device.old) (D.machine device.new) thread.0) }
     ensures same { OnErr result (history.new.items ≡ history.old.items) }
     ensures same_state { OnErr result (D.state device.new ≡ D.state device.old) }
+    ensures same_machine { OnErr result (D.machine device.new ≡ D.machine device.old) }
     ensures rest { D.rest_of device.new ≡ D.rest_of device.old }
     ensures faults { D.faults device.old ≤ D.faults device.new }
     ensures cause { HasCause (D.faults device.old) (D.faults device.new) result }

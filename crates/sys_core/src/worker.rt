@@ -6,7 +6,7 @@ ghost use Rattle.d3d_machine.specs.World.{HasOneQueueAtMost};
 ghost use Rattle.sys_core.specs.Batches.{batch_by, is_numbered_operation};
 ghost use Rattle.sys_core.specs.Lowering.{AreNumbers};
 ghost use Rattle.sys_core.specs.Parts.{queued, submitted_one, signal_of};
-ghost use Rattle.sys_core.specs.Steps.{is_ready_worker, submitted_batches, after_submits};
+ghost use Rattle.sys_core.specs.Steps.{is_ready_worker, submitted_batches, after_submits, after_vk_submits};
 ghost use Rattle.sys_core.specs.Serving.{HasCause};
 ghost use Rattle.sys_core.specs.Keeps.{Keeps};
 
@@ -82,13 +82,15 @@ pub(crate) fn worker_step<D: VkDevice>(
     device: &mut D,
     queue: QueueId,
 ) -> Result<(), SysFault>
-    requires keeps { Keeps D.state D.plan_of world.now history.now.items parts.old device.old }
+    requires keeps { Keeps D.state D.machine D.plan_of world.now history.now.items parts.old device.old }
     requires queues { HasOneQueueAtMost world.now }
     requires queue { queue.0 < length world.now.queues }
     requires ready { is_ready_worker world.now history.now.items (D.state device.old) queue.0 ≡ true }
-    ensures keeps { Keeps D.state D.plan_of world.now history.now.items parts.new device.new }
+    ensures keeps { Keeps D.state D.machine D.plan_of world.now history.now.items parts.new device.new }
     ensures state { OnOk result (D.state device.new ≡ after_submits (D.state device.old) (submitted_batches world.now history.now.items (D.state device.old) queue.0)) }
+    ensures machine { OnOk result (D.machine device.new ≡ after_vk_submits (D.machine device.old) (submitted_batches world.now history.now.items (D.state device.old) queue.0)) }
     ensures same_state { OnErr result (D.state device.new ≡ D.state device.old) }
+    ensures same_machine { OnErr result (D.machine device.new ≡ D.machine device.old) }
     ensures rest { D.rest_of device.new ≡ D.rest_of device.old }
     ensures faults { D.faults device.old ≤ D.faults device.new }
     ensures cause { HasCause (D.faults device.old) (D.faults device.new) result }

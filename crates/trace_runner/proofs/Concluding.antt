@@ -33,7 +33,7 @@ use Rattle.sys_core.specs.Laws.{CanGoOn}
 use Rattle.trace_runner.proofs.OfRounds.{rounds_are_calm, rounds_go_on}
 
 -- a run that took steps
-underway : (w : World) (l : Left) → l.verdict ≡ Clean → Went w l.rest.0 l.rest.1 l.choices l.taken l.history l.device → IsSystem w l.history l.device → IsWhole w l.history l.device → IsUnderway w l
+underway : (w : World) (l : Left) → l.verdict ≡ Clean → Went w l.rest.0 l.rest.1 l.choices l.taken l.history l.device l.machine → IsSystem w l.history l.device l.machine → IsWhole w l.history l.device l.machine → IsUnderway w l
 underway w l clean went system whole = record {
   clean = clean;
   went = went;
@@ -47,7 +47,7 @@ underway w l clean went system whole = record {
 through : (w : World) (l : Left) (values : List ℕ) → IsUnderway w l → length l.choices ≡ length l.taken → l.fences ≡ values → values ≡ (state_after w l.history).desk.fences → IsThrough w l
 through w l values under equal is are = record { underway = under; equal = equal; values = is ∙ are }
 
-ran_over : (w : World) (l : Left) (o : Over) (s : Status) → IsSystem w l.history l.device → IsThrough w l → IsOver w l.history l.verdict l.device l.offered o → (o ≡ over.Done) ⊎ (o ≡ over.Stalled) →
+ran_over : (w : World) (l : Left) (o : Over) (s : Status) → IsSystem w l.history l.device l.machine → IsThrough w l → IsOver w l.history l.verdict l.device l.offered o → (o ≡ over.Done) ⊎ (o ≡ over.Stalled) →
     s ≡ status_at o → Ran w l s
 ran_over w l over.Running s system is far last at = elim last [
   | inl e ↦ absurd (cc)
@@ -75,7 +75,7 @@ ran_fault w l fault.Memory s under cause at = subst (Ran w l) (sym at) (inr unde
 ran_fault w l fault.Lost s under cause at = subst (Ran w l) (sym at) (cause, inr under)
 
 -- the run is finished or stalled where no step is left, and else cut short
-pub ran_end : (w : World) (l : Left) (s : Status) (end : Result Over SysFault) → l.verdict ≡ Clean → Went w l.rest.0 l.rest.1 l.choices l.taken l.history l.device → IsSystem w l.history l.device → IsWhole w l.history l.device →
+pub ran_end : (w : World) (l : Left) (s : Status) (end : Result Over SysFault) → l.verdict ≡ Clean → Went w l.rest.0 l.rest.1 l.choices l.taken l.history l.device l.machine → IsSystem w l.history l.device l.machine → IsWhole w l.history l.device l.machine →
     IfOk end (λ o. IsOver w l.history l.verdict l.device l.offered o) → IfOk end (λ o. (o ≡ over.Done) ⊎ (o ≡ over.Stalled)) → OnOk end (length l.choices ≡ length l.taken) →
     HasCause l.faults.0 l.faults.1 end → Ends end (state_after w l.history).desk.fences (s, l.fences) → Ran w l s
 ran_end w l s (Ok o) clean went system whole far last equal cause (inl done) =

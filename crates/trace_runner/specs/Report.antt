@@ -17,6 +17,7 @@ use Rattle.trace_text.specs.WorldOf.{world_of_value}
 use Rattle.vk_types.specs.declared.plan.DevicePlan.{DevicePlan}
 use Rattle.verdicts.specs.declared.rules.Verdict.{Verdict}
 use Rattle.verdicts.specs.declared.rules.Verdict.TheVariants.{Clean}
+use Rattle.vk_sync_rules.specs.VkState.{VkState as Machine}
 use Rattle.vk_port.specs.VkState.{VkState}
 use Rattle.sys_core.specs.declared.faults.SysFault.{SysFault}
 use Rattle.sys_core.specs.declared.faults.SysFault.TheVariants as fault
@@ -40,8 +41,8 @@ pub record Given : Type 0 where
   pub source : ℕ × ℕ
 
 -- what a run left: the counts of faults of the device before and after, how many free steps it had left to take before and
--- after, the choices, the steps taken, the history, the fences' last values, the device, how many free steps it offers, its
--- plan, and the verdict
+-- after, the choices, the steps taken, the history, the fences' last values, the device and its machine, how many free steps it
+-- offers, its plan, and the verdict
 pub record Left : Type 0 where
   pub faults : ℕ × ℕ
   pub rest : ℕ × ℕ
@@ -50,6 +51,7 @@ pub record Left : Type 0 where
   pub history : List Event
   pub fences : List ℕ
   pub device : VkState
+  pub machine : Machine
   pub offered : ℕ
   pub plan : Option DevicePlan
   pub verdict : Verdict
@@ -75,14 +77,14 @@ pub record IsUntouched (l : Left) : Type 0 where
 -- nothing has happened, and the device has no plan, or the world's objects as they are at first
 pub record IsUnbegun (w : World) (l : Left) : Type 0 where
   pub untouched : IsUntouched l
-  pub unopened : IsUnopened w l.plan l.device
+  pub unopened : IsUnopened w l.plan l.device l.machine
 
 -- the verdict is Clean, as it is for now; the choices lead to the history and the device by the steps that were taken, which
 -- are counted; the history is a run but for words, in which each thread's calls are the first of its script, and a run with
 -- its words where it is calm, and so in a world of rounds; the device has the batches that its operations lower to
 pub record IsUnderway (w : World) (l : Left) : Type 0 where
   pub clean : l.verdict ≡ Clean
-  pub went : Went w l.rest.0 l.rest.1 l.choices l.taken l.history l.device
+  pub went : Went w l.rest.0 l.rest.1 l.choices l.taken l.history l.device l.machine
   pub run : IsRunButWords w l.history
   pub scripts : AreOfScripts w l.history
   pub calm : IsCalm w l.history → IsRun w l.history
@@ -155,8 +157,8 @@ Says g t l status.DeviceLost = AreGood g.words × OfTrace (IsRunOf g.told l stat
 Says g t l status.Memory = IsStopped t l ⊎ (AreGood g.words × OfTrace (IsRunOf g.told l status.Memory) t)
 
 -- what a run left, by its parts
-abbrev pub left_by : Log → (ℕ × ℕ) → (ℕ × ℕ) → ℕ → Option DevicePlan → VkState → Outcome → Left
-left_by log faults rest offered plan device o = record {
+abbrev pub left_by : Log → (ℕ × ℕ) → (ℕ × ℕ) → ℕ → Option DevicePlan → VkState → Machine → Outcome → Left
+left_by log faults rest offered plan device machine o = record {
   faults = faults;
   rest = rest;
   choices = log.choices.items;
@@ -164,6 +166,7 @@ left_by log faults rest offered plan device o = record {
   history = o.history;
   fences = o.fences;
   device = device;
+  machine = machine;
   offered = offered;
   plan = plan;
   verdict = Clean;

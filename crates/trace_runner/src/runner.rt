@@ -95,13 +95,13 @@ fn ending_of<D: VkDevice>(
 
 /// The end of a system that took its steps.
 fn finish<D: VkDevice>(alloc: Global, sys: Sys<D>, end: Result<Over, SysFault>, log: &Log) -> Run<D>
-    requires system { IsSystem sys.world sys.history (D.state sys.device) }
-    requires whole { IsWhole sys.world sys.history (D.state sys.device) }
+    requires system { IsSystem sys.world sys.history (D.state sys.device) (D.machine sys.device) }
+    requires whole { IsWhole sys.world sys.history (D.state sys.device) (D.machine sys.device) }
     requires over { IfOk end (λ o. IsOver sys.world sys.history Clean (D.state sys.device) (D.offered sys.device) o) }
     requires last { IfOk end (λ o. (o ≡ over.Done) ⊎ (o ≡ over.Stalled)) }
     requires equal { OnOk end (length log.now.choices.items ≡ length log.now.taken.items) }
     ensures { (before rest : ℕ) → HasCause before (D.faults sys.device) end →
-        Went sys.world rest (D.rest_of sys.device) log.now.choices.items log.now.taken.items sys.history (D.state sys.device) →
+        Went sys.world rest (D.rest_of sys.device) log.now.choices.items log.now.taken.items sys.history (D.state sys.device) (D.machine sys.device) →
         Ran sys.world (record {
           faults = (before, D.faults result.device);
           rest = (rest, D.rest_of result.device);
@@ -110,6 +110,7 @@ fn finish<D: VkDevice>(alloc: Global, sys: Sys<D>, end: Result<Over, SysFault>, 
           history = result.history.items;
           fences = result.fences;
           device = D.state result.device;
+          machine = D.machine result.device;
           offered = D.offered result.device;
           plan = D.plan_of result.device;
           verdict = Clean;
@@ -149,6 +150,7 @@ fn run_world<D: VkDevice, C: Chooser>(
       history = result.history.items;
       fences = result.fences;
       device = D.state result.device;
+      machine = D.machine result.device;
       offered = D.offered result.device;
       plan = D.plan_of result.device;
       verdict = Clean;
@@ -203,7 +205,7 @@ fn run_trace<D: VkDevice, C: Chooser>(
     requires no_plan { D.plan_of device ≡ None }
     requires new { (D.state device).journal ≡ [] }
     requires given { C.given choices.old ≡ [] }
-    ensures ran { RanTrace (seen trace) (option_map seen result.trace) (left_by result.log (D.faults device, D.faults result.device) (D.rest_of device, D.rest_of result.device) (D.offered result.device) (D.plan_of result.device) (D.state result.device) result.outcome) result.outcome.status }
+    ensures ran { RanTrace (seen trace) (option_map seen result.trace) (left_by result.log (D.faults device, D.faults result.device) (D.rest_of device, D.rest_of result.device) (D.offered result.device) (D.plan_of result.device) (D.state result.device) (D.machine result.device) result.outcome) result.outcome.status }
     ensures shown { result.outcome.shown ≡ shown }
     ensures refused { result.outcome.refused ≡ refused_in (option_map seen result.trace) }
     ensures given { C.given choices.new ≡ result.log.choices.items }
@@ -249,7 +251,7 @@ fn ran<S: Source, D: VkDevice, C: Chooser>(
       words = map string_bytes words.now;
       told = S.left source.old;
       source = (S.faults source.old, S.faults source.new);
-    }) (option_map seen result.trace) (left_by result.log (D.faults device, D.faults result.device) (D.rest_of device, D.rest_of result.device) (D.offered result.device) (D.plan_of result.device) (D.state result.device) result.outcome) result.outcome.status }
+    }) (option_map seen result.trace) (left_by result.log (D.faults device, D.faults result.device) (D.rest_of device, D.rest_of result.device) (D.offered result.device) (D.plan_of result.device) (D.state result.device) (D.machine result.device) result.outcome) result.outcome.status }
     ensures unread { IfErr (said_by (map string_bytes words.now)) (λ _. source.new ≡ source.old) }
     ensures undrawn { IfErr (said_by (map string_bytes words.now)) (λ _. choices.new ≡ choices.old) }
     ensures unrun { IsUnrun result.outcome.status → result.device ≡ device }
@@ -363,6 +365,7 @@ pub fn simulate<S: Source, K: Sink, D: VkDevice, C: Chooser>(
       history = result.history.items;
       fences = fences;
       device = D.state result.device;
+      machine = D.machine result.device;
       offered = D.offered result.device;
       plan = D.plan_of result.device;
       verdict = result.verdict;

@@ -21,10 +21,10 @@ use vk_port::VkDevice;
 /// Takes a step that can be taken. Refused, all stays.
 fn take_step<D: VkDevice>(sys: &mut Sys<D>, step: Step) -> Result<(), SysFault>
     requires { CanBeTaken sys.old.world sys.old.history (D.state sys.old.device) (D.offered sys.old.device) step }
-    ensures taken { OnOk result (WasTaken D.state D.rest_of step sys.old sys.new) }
-    ensures stays { OnErr result (Stays D.state D.rest_of sys.old sys.new) }
-    ensures system { IsSystem sys.new.world sys.new.history (D.state sys.new.device) }
-    ensures whole { IsWhole sys.new.world sys.new.history (D.state sys.new.device) }
+    ensures taken { OnOk result (WasTaken D.state D.machine D.rest_of step sys.old sys.new) }
+    ensures stays { OnErr result (Stays D.state D.machine D.rest_of sys.old sys.new) }
+    ensures system { IsSystem sys.new.world sys.new.history (D.state sys.new.device) (D.machine sys.new.device) }
+    ensures whole { IsWhole sys.new.world sys.new.history (D.state sys.new.device) (D.machine sys.new.device) }
     ensures faults { D.faults sys.old.device ≤ D.faults sys.new.device }
     ensures cause { HasCause (D.faults sys.old.device) (D.faults sys.new.device) result }
 {
@@ -44,12 +44,12 @@ fn choose_step<D: VkDevice, C: Chooser>(
 ) -> Result<(), SysFault>
     requires running { IsFinished sys.old.world (state_after sys.old.world sys.old.history).desk → ⊥ }
     requires some { 0 < length (enabled_of sys.old.world sys.old.history Clean (D.state sys.old.device) (D.offered sys.old.device)) }
-    requires system { IsSystem sys.old.world sys.old.history (D.state sys.old.device) }
-    requires whole { IsWhole sys.old.world sys.old.history (D.state sys.old.device) }
-    ensures took { OnOk result (TookStep D.state D.rest_of sys.old sys.new log.old log.new) }
-    ensures none { OnErr result (TookNone D.state D.rest_of sys.old sys.new log.old log.new) }
-    ensures system { IsSystem sys.new.world sys.new.history (D.state sys.new.device) }
-    ensures whole { IsWhole sys.new.world sys.new.history (D.state sys.new.device) }
+    requires system { IsSystem sys.old.world sys.old.history (D.state sys.old.device) (D.machine sys.old.device) }
+    requires whole { IsWhole sys.old.world sys.old.history (D.state sys.old.device) (D.machine sys.old.device) }
+    ensures took { OnOk result (TookStep D.state D.machine D.rest_of sys.old sys.new log.old log.new) }
+    ensures none { OnErr result (TookNone D.state D.machine D.rest_of sys.old sys.new log.old log.new) }
+    ensures system { IsSystem sys.new.world sys.new.history (D.state sys.new.device) (D.machine sys.new.device) }
+    ensures whole { IsWhole sys.new.world sys.new.history (D.state sys.new.device) (D.machine sys.new.device) }
     ensures given { C.given choices.old ≡ log.old.choices.items → C.given choices.new ≡ log.new.choices.items }
     ensures started { C.started choices.new ≡ C.started choices.old }
     ensures faults { D.faults sys.old.device ≤ D.faults sys.new.device }
@@ -71,17 +71,17 @@ pub(crate) fn take_steps<D: VkDevice, C: Chooser>(
     log: &mut Log,
 ) -> Result<Over, SysFault>
     requires equal { length log.old.choices.items ≡ length log.old.taken.items }
-    requires system { IsSystem sys.old.world sys.old.history (D.state sys.old.device) }
-    requires whole { IsWhole sys.old.world sys.old.history (D.state sys.old.device) }
+    requires system { IsSystem sys.old.world sys.old.history (D.state sys.old.device) (D.machine sys.old.device) }
+    requires whole { IsWhole sys.old.world sys.old.history (D.state sys.old.device) (D.machine sys.old.device) }
     requires given { C.given choices.old ≡ log.old.choices.items }
     ensures over { IfOk result (λ o. IsOver sys.new.world sys.new.history Clean (D.state sys.new.device) (D.offered sys.new.device) o) }
     ensures ended { IfOk result (λ o. (o ≡ over.Done) ⊎ (o ≡ over.Stalled)) }
     ensures equal { OnOk result (length log.new.choices.items ≡ length log.new.taken.items) }
-    ensures went { (rest : ℕ) → Went sys.old.world rest (D.rest_of sys.old.device) log.old.choices.items log.old.taken.items sys.old.history (D.state sys.old.device) →
-        Went sys.new.world rest (D.rest_of sys.new.device) log.new.choices.items log.new.taken.items sys.new.history (D.state sys.new.device) }
+    ensures went { (rest : ℕ) → Went sys.old.world rest (D.rest_of sys.old.device) log.old.choices.items log.old.taken.items sys.old.history (D.state sys.old.device) (D.machine sys.old.device) →
+        Went sys.new.world rest (D.rest_of sys.new.device) log.new.choices.items log.new.taken.items sys.new.history (D.state sys.new.device) (D.machine sys.new.device) }
     ensures world { sys.new.world ≡ sys.old.world }
-    ensures system { IsSystem sys.new.world sys.new.history (D.state sys.new.device) }
-    ensures whole { IsWhole sys.new.world sys.new.history (D.state sys.new.device) }
+    ensures system { IsSystem sys.new.world sys.new.history (D.state sys.new.device) (D.machine sys.new.device) }
+    ensures whole { IsWhole sys.new.world sys.new.history (D.state sys.new.device) (D.machine sys.new.device) }
     ensures given { C.given choices.new ≡ log.new.choices.items }
     ensures started { C.started choices.new ≡ C.started choices.old }
     ensures faults { D.faults sys.old.device ≤ D.faults sys.new.device }

@@ -6,15 +6,14 @@ use Rattle.vk_port.specs.declared.lanes.Lane.{Lane}
 use Rattle.vk_port.specs.declared.lanes.Running.{Running}
 use Rattle.vk_port.specs.declared.steps.Stepped.{Stepped}
 use Rattle.vk_port.specs.declared.steps.Stepped.TheVariants.{Passed, Ran, Bumped, Free}
-use Rattle.vk_port.specs.VkState.{VkState, lane_of, no_lane}
+use Rattle.vk_port.specs.VkState.{VkState}
 use Rattle.vk_port.specs.Enabled.{reached, ready_pass, passes, undone, batch_commands, lane_commands, commands, all_done, ready_bump, bumps, enabled_steps, ready_command}
 use Rattle.vk_port.specs.Meaning.{IsEnabled, IsInOrder}
 use Rattle.vk_port.specs.Offers.{rest_taken}
 use Rattle.vk_port.specs.Orders.{can_run}
-use Rattle.vk_port.specs.Stored.{IsTakable}
 use Rattle.std.proofs.lemmas.Bool.{ltb-true}
 use Rattle.std.proofs.lemmas.List.{append-nil}
-use Rattle.std.proofs.lemmas.Option.{none-some, slice_get_within, get_or_from_slice_get}
+use Rattle.std.proofs.lemmas.Option.{none-some, slice_get_within}
 use Rattle.std.proofs.Math.ListN.{length-take}
 use Rattle.vk_port.proofs.Earlier.{all_undone, earlier, earlier_done, earlier_left, earlier_batch, in_order_of}
 use Rattle.vk_port.proofs.Lists.{head_at, tail_at, get_of_take}
@@ -129,17 +128,6 @@ module _ (v : VkState) where
   -- a step that can be taken means what it says
   pub enabled_means : (k : ℕ) (s : Stepped) → slice_get (enabled_steps v) k ≡ Some s → IsEnabled v s
   enabled_means k s is = each_at (IsEnabled v) (enabled_steps v) k s each_step is
-
--- what a step asks of the lanes
-pub takable : (v : VkState) (s : Stepped) → IsEnabled v s → IsTakable v s
-takable v (Passed q n) e =
-    let same : lane_of v q ≡ e.lane = get_or_from_slice_get v.lanes q e.lane no_lane e.there in
-    (slice_get_within v.lanes q e.lane e.there, subst (λ (lane : Lane). lane.passed < length lane.batches) (sym same) (slice_get_within e.lane.batches e.lane.passed e.next e.is_next))
-takable v (Ran q n k) e = slice_get_within v.lanes q e.lane e.there
-takable v (Bumped q n) e =
-    let same : lane_of v q ≡ e.lane = get_or_from_slice_get v.lanes q e.lane no_lane e.there in
-    (slice_get_within v.lanes q e.lane e.there, subst (λ (lane : Lane). 0 < length lane.batches) (sym same) (slice_get_within e.lane.batches 0 e.first e.is_first))
-takable v Free e = absurd e
 
 -- no step of the Vulkan machine takes rest
 pub no_rest : (v : VkState) (s : Stepped) → IsEnabled v s → rest_taken s ≡ 0

@@ -83,7 +83,7 @@ lanes_changed f (suc q) (x ∷ lanes) lane is =
     omega (arith, later)
 
 -- the later ones of batches without a gap have none
-numbered_later : (m n : ℕ) (xs : List Batch) → are_numbered m xs ≡ true → are_numbered (m + n) (drop n xs) ≡ true
+pub numbered_later : (m n : ℕ) (xs : List Batch) → are_numbered m xs ≡ true → are_numbered (m + n) (drop n xs) ≡ true
 numbered_later m zero xs h = subst (λ (j : ℕ). are_numbered j xs ≡ true) (let same : m ≡ m + 0 = omega arith in same) h
 numbered_later m (suc n) [] h = refl
 numbered_later m (suc n) (x ∷ xs) h =

@@ -28,7 +28,7 @@ pub steps_turn : (q n k : ℕ) (a : Ahead) (cs : List VkCommand) (done : List Bo
 steps_turn q n k a cs done i d c there is marked = rw (opened cs i c there, opened done i d is, marked) refl
 
 -- behind the last mark there is no step
-steps_unmarked : (q n k : ℕ) (a : Ahead) (cs : List VkCommand) → batch_steps q n k a cs [] ≡ []
+pub steps_unmarked : (q n k : ℕ) (a : Ahead) (cs : List VkCommand) → batch_steps q n k a cs [] ≡ []
 steps_unmarked q n k a [] = refl
 steps_unmarked q n k a (c ∷ cs) = refl
 
@@ -53,7 +53,7 @@ pub summary_turn : (a : Ahead) (cs : List VkCommand) (done : List Bool) (i : ℕ
 summary_turn a cs done i d c there is marked = rw (opened cs i c there, opened done i d is, marked) refl
 
 -- behind the last mark no command is left
-unmarked_none : (cs : List VkCommand) → unmarked cs [] ≡ []
+pub unmarked_none : (cs : List VkCommand) → unmarked cs [] ≡ []
 unmarked_none [] = refl
 unmarked_none (c ∷ cs) = refl
 
@@ -136,7 +136,7 @@ lets_first (Clear target word) = refl
 lets_first (Dispatch routine count t0 t1 u0 b0) = refl
 
 -- the commands of a list, summed up, let a command run just where they do themselves
-lets_is : (before : List VkCommand) (c : VkCommand) → lets (summary no_ahead before) c ≡ can_run before c
+pub lets_is : (before : List VkCommand) (c : VkCommand) → lets (summary no_ahead before) c ≡ can_run before c
 lets_is before c = rw (lets_after no_ahead before c, lets_first c) refl
 
 -- one more command summed up

@@ -11,7 +11,7 @@ use Rattle.vk_port.specs.declared.lanes.Lane.{Lane}
 use Rattle.vk_types.specs.declared.plan.DevicePlan.{DevicePlan}
 use Rattle.vk_port.specs.declared.steps.Stepped.{Stepped}
 use Rattle.vk_port.specs.declared.steps.Stepped.TheVariants.{Passed, Ran, Bumped, Free}
-use Rattle.vk_port.specs.After.{with_done, place_of, lane_after_run, lane_after_pass, lane_after_bump, started, lane_after_submit, after_step, after_submit, after_host_write, after_host_read}
+use Rattle.vk_port.specs.After.{with_done, place_of, lane_after_run, lane_after_pass, lane_after_bump, started, lane_after_submit, after_step, after_submit}
 use Rattle.vk_port.specs.Journal.{of_queue, first_number, number_after, next_number, are_numbered}
 use Rattle.vk_port.specs.Meaning.{IsEnabled}
 use Rattle.vk_port.specs.Valid.{IsLane, IsValid, is_marked, batch_of}
@@ -103,7 +103,7 @@ pub of_other_queue : (q : ℕ) (b : Batch) (xs : List Batch) → (q ≡ b.queue 
 of_other_queue q b xs other = rw (of_queue_append q xs (b ∷ []), ne_eqb b.queue q (λ same. other (sym same)), append-nil (of_queue q xs)) refl
 
 -- one more batch, of the next number, leaves no gap
-numbered_more : (n : ℕ) (xs : List Batch) (b : Batch) → are_numbered n xs ≡ true → b.number ≡ number_after n xs → are_numbered n (xs ++ b ∷ []) ≡ true
+pub numbered_more : (n : ℕ) (xs : List Batch) (b : Batch) → are_numbered n xs ≡ true → b.number ≡ number_after n xs → are_numbered n (xs ++ b ∷ []) ≡ true
 numbered_more n [] b numbered next = rw (eq-eqb b.number n next) refl
 numbered_more n (x ∷ xs) b numbered next =
     let both = and_parts (x.number == n) (are_numbered (n + 1) xs) numbered in
@@ -168,10 +168,3 @@ submit_valid v b within number valid = record {
         | inr other ↦ rw (of_other_queue i b v.journal other) (valid.numbered i)
       ];
 }
-
--- an access of the host keeps a state valid
-pub host_write_valid : (v : VkState) (buffer first : ℕ) (words : List ℕ) → IsValid v → IsValid (after_host_write v buffer first words)
-host_write_valid v buffer first words valid = record { lanes = valid.lanes; numbered = valid.numbered }
-
-pub host_read_valid : (v : VkState) (buffer first count : ℕ) → IsValid v → IsValid (after_host_read v buffer first count)
-host_read_valid v buffer first count valid = valid

@@ -67,7 +67,6 @@ sets_of lane = elim (slice_get lane.batches 0) [ None ↦ [] | Some first ↦ fi
 abbrev pub after_step : VkState → Stepped → VkState
 after_step v (Passed q n) = record v { lanes = changed_at lane_after_pass q v.lanes }
 after_step v (Ran q n k) = record v {
-  words = after_found (command_at n k (lane_of v q).batches) v.words;
   lanes = changed_at (lane_after_run n k) q v.lanes;
 }
 after_step v (Bumped q n) = record v {
@@ -91,11 +90,3 @@ lane_after_submit b lane = with_batch (started b) lane
 -- the state after a submission (Vulkan 1.3, 6.5)
 abbrev pub after_submit : VkState → Batch → VkState
 after_submit v b = record v { journal = v.journal ++ b ∷ []; lanes = changed_at (lane_after_submit b) b.queue v.lanes }
-
--- the state after the host wrote words of a buffer from one place on
-abbrev pub after_host_write : VkState → ℕ → ℕ → List ℕ → VkState
-after_host_write v buffer first new = record v { words = changed_at (put first new) buffer v.words }
-
--- the state after the host read words of a buffer from one place on
-abbrev pub after_host_read : VkState → ℕ → ℕ → ℕ → VkState
-after_host_read v buffer first count = v

@@ -1,12 +1,19 @@
 -- Laws of the Vulkan machine.
-use Rattle.std.specs.Prelude.{ℕ, ◌≡◌, ◌+◌, ◌<◌, List, length, slice_get, Some}
+use Rattle.std.specs.Prelude.{ℕ, ◌≡◌, ◌+◌, ◌<◌, true, List, [], length, slice_get, Some}
 use Rattle.vk_types.specs.declared.batches.Batch.{Batch}
 use Rattle.vk_types.specs.declared.plan.DevicePlan.{DevicePlan}
+use Rattle.vk_types.specs.declared.steps.VkStep.{VkStep}
+use Rattle.vk_types.specs.declared.steps.VkStep.TheVariants as vk
+use Rattle.vk_sync_rules.specs.BatchEnds.{AreEnded}
+use Rattle.vk_sync_rules.specs.EnabledSteps.{is_enabled}
+use Rattle.vk_sync_rules.specs.Rules.{after_step as after_vk_step}
+use Rattle.vk_sync_rules.specs.VkState.{VkState as Machine, first_state as first_machine}
 use Rattle.vk_port.specs.declared.steps.Stepped.{Stepped}
-use Rattle.vk_port.specs.After.{after_step, after_submit, after_host_write, after_host_read}
+use Rattle.vk_port.specs.After.{after_step, after_submit}
 use Rattle.vk_port.specs.Enabled.{enabled_steps}
-use Rattle.vk_port.specs.Journal.{next_number}
+use Rattle.vk_port.specs.Journal.{next_number, fits_plan}
 use Rattle.vk_port.specs.Left.{steps_left}
+use Rattle.vk_port.specs.Machine.{Shows, IsCounted, vk_step, after_stepped}
 use Rattle.vk_port.specs.Meaning.{IsEnabled}
 use Rattle.vk_port.specs.Valid.{IsValid, Matches}
 use Rattle.vk_port.specs.VkState.{VkState, first_state}
@@ -33,13 +40,27 @@ pub record StaysValid : Type 0 where
   pub at_first : (plan : DevicePlan) → IsValid (first_state plan)
   pub steps : (v : VkState) (s : Stepped) → IsEnabled v s → IsValid v → IsValid (after_step v s)
   pub submissions : (v : VkState) (b : Batch) → b.queue < length v.lanes → b.number ≡ next_number b.queue v.journal → IsValid v → IsValid (after_submit v b)
-  pub host_writes : (v : VkState) (buffer first : ℕ) (words : List ℕ) → IsValid v → IsValid (after_host_write v buffer first words)
-  pub host_reads : (v : VkState) (buffer first count : ℕ) → IsValid v → IsValid (after_host_read v buffer first count)
 
 -- states have the objects of their plan from the first one on
 pub record StaysMatched : Type 0 where
   pub at_first : (plan : DevicePlan) → Matches plan (first_state plan)
   pub steps : (plan : DevicePlan) (v : VkState) (s : Stepped) → Matches plan v → Matches plan (after_step v s)
   pub submissions : (plan : DevicePlan) (v : VkState) (b : Batch) → Matches plan v → Matches plan (after_submit v b)
-  pub host_writes : (plan : DevicePlan) (v : VkState) (buffer first : ℕ) (words : List ℕ) → Matches plan v → Matches plan (after_host_write v buffer first words)
-  pub host_reads : (plan : DevicePlan) (v : VkState) (buffer first count : ℕ) → Matches plan v → Matches plan (after_host_read v buffer first count)
+
+-- what a device has of the machine's state is that from the first one on, and the machine's batches stay counted
+pub record StaysShown : Type 0 where
+  pub at_first : (plan : DevicePlan) → Shows (first_machine plan) (first_state plan) × IsCounted (first_machine plan)
+  pub steps : (v : Machine) (u : VkState) (s : Stepped) → Shows v u → IsCounted v → IsEnabled u s → Shows (after_stepped v s []) (after_step u s) × IsCounted (after_stepped v s [])
+  pub submissions : (v : Machine) (u : VkState) (b : Batch) → Shows v u → IsCounted v → b.queue < length v.queues → b.number ≡ next_number b.queue u.journal → fits_plan v.plan b ≡ true →
+      Shows (after_vk_step v (vk.Submit b)) (after_submit u b) × IsCounted (after_vk_step v (vk.Submit b))
+  pub host_writes : (v : Machine) (u : VkState) (buffer first : ℕ) (words : List ℕ) → Shows v u → IsCounted v →
+      Shows (after_vk_step v (vk.HostWrite buffer first words)) u × IsCounted (after_vk_step v (vk.HostWrite buffer first words))
+  pub host_reads : (v : Machine) (u : VkState) (buffer first : ℕ) (words : List ℕ) → Shows v u → IsCounted v →
+      Shows (after_vk_step v (vk.HostRead buffer first words)) u × IsCounted (after_vk_step v (vk.HostRead buffer first words))
+
+-- the steps that are offered are those of the machine, where the commands of batches that have ended are done
+pub record OffersWhatIsEnabled : Type 0 where
+  pub offered : (v : Machine) (u : VkState) (k : ℕ) (s : Stepped) → Shows v u → IsCounted v → AreEnded v → slice_get (enabled_steps u) k ≡ Some s →
+      (x : VkStep) × (vk_step s [] ≡ Some x) × (is_enabled v x ≡ true)
+  pub enabled : (v : Machine) (u : VkState) (s : Stepped) (x : VkStep) → Shows v u → IsCounted v → vk_step s [] ≡ Some x → is_enabled v x ≡ true →
+      (k : ℕ) × (slice_get (enabled_steps u) k ≡ Some s)

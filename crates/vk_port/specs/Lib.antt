@@ -6,8 +6,12 @@ pub mod Enabled
 pub mod After
 pub mod Left
 pub mod Journal
+pub mod Agreement
+pub mod Machine
 pub mod VkSteps
+pub mod Words
 pub mod Valid
+pub mod Fronts
 pub mod Causes
 pub mod Offers
 pub mod Found
@@ -20,3 +24,6 @@ pub mod Plain
 pub mod Meaning
 pub mod Laws
 pub mod Examples
+pub mod Reads
+pub mod Settled
+pub mod ReadRows

@@ -1,6 +1,7 @@
 -- A plain device, as the contract of a device sees it.
 use Rattle.std.specs.Prelude.{ℕ, Option}
 use Rattle.vk_types.specs.declared.plan.DevicePlan.{DevicePlan}
+use Rattle.vk_sync_rules.specs.VkState.{VkState as Machine}
 use Rattle.vk_port.specs.declared.plain.PlainDevice.{PlainDevice}
 use Rattle.vk_port.specs.VkState.{VkState}
 
@@ -11,6 +12,10 @@ plan_of device = device.kept.seen.plan
 -- the state of its Vulkan machine
 abbrev pub state : PlainDevice → VkState
 state device = device.kept.seen.state
+
+-- and with what was accessed
+abbrev pub machine : PlainDevice → Machine
+machine device = device.kept.seen.machine
 
 -- it takes no free steps
 abbrev pub rest_of : PlainDevice → ℕ

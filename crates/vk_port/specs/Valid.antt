@@ -1,11 +1,10 @@
 -- What every state of the Vulkan machine keeps.
-use Rattle.std.specs.Prelude.{ℕ, ◌≡◌, ◌≤◌, ◌==◌, Bool, true, List, map, length, drop}
+use Rattle.std.specs.Prelude.{ℕ, ◌≡◌, ◌≤◌, ◌==◌, Bool, true, List, [], map, length, drop}
 use Rattle.std.specs.List.{list_all}
 use Rattle.vk_types.specs.declared.batches.Batch.{Batch}
 use Rattle.vk_port.specs.declared.lanes.Lane.{Lane}
 use Rattle.vk_port.specs.declared.lanes.Running.{Running}
 use Rattle.vk_types.specs.declared.plan.DevicePlan.{DevicePlan}
-use Rattle.vk_types.specs.declared.plan.PlanBuffer.{PlanBuffer}
 use Rattle.vk_port.specs.VkState.{VkState, lane_of}
 use Rattle.vk_port.specs.Journal.{of_queue, first_number, are_numbered}
 
@@ -31,12 +30,11 @@ pub record IsValid (v : VkState) : Type 0 where
   pub lanes : (q : ℕ) → IsLane (of_queue q v.journal) (lane_of v q)
   pub numbered : (q : ℕ) → are_numbered (first_number q) (of_queue q v.journal) ≡ true
 
--- the words that a buffer of a plan has
-abbrev pub words_count : PlanBuffer → ℕ
-words_count buffer = buffer.words
+-- so do lanes with a journal: timelines are not asked
+abbrev pub AreValidLanes : List Batch → List Lane → Type 0
+AreValidLanes journal lanes = IsValid (record { timelines = []; journal = journal; lanes = lanes })
 
--- a state has the objects of the plan
+-- a state has the queues and the timelines of the plan
 pub record Matches (plan : DevicePlan) (v : VkState) : Type 0 where
   pub lanes : length v.lanes ≡ plan.queues
   pub timelines : length v.timelines ≡ plan.timelines
-  pub buffers : map length v.words ≡ map words_count plan.buffers

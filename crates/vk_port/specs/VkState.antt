@@ -1,14 +1,11 @@
 -- The state of the Vulkan machine.
-use Rattle.std.specs.Prelude.{ℕ, List, [], map, replicate, slice_index_or}
+use Rattle.std.specs.Prelude.{ℕ, List, [], replicate, slice_index_or}
 use Rattle.vk_types.specs.declared.batches.Batch.{Batch}
 use Rattle.vk_port.specs.declared.lanes.Lane.{Lane}
 use Rattle.vk_types.specs.declared.plan.DevicePlan.{DevicePlan}
-use Rattle.vk_types.specs.declared.plan.PlanBuffer.{PlanBuffer}
 
 -- what the Vulkan machine knows
 pub record VkState : Type 0 where
-  -- the words of each buffer
-  pub words : List (List ℕ)
   -- the value of each timeline semaphore
   pub timelines : List ℕ
   -- all batches that were submitted, oldest first
@@ -20,22 +17,13 @@ pub record VkState : Type 0 where
 abbrev pub no_lane : Lane
 no_lane = record { batches = []; passed = 0 }
 
--- the words of a buffer of a plan at first
-abbrev pub first_words : PlanBuffer → List ℕ
-first_words buffer = replicate buffer.words 0
-
--- the state in which a device of a plan begins: zeros everywhere, and nothing submitted
+-- the state in which a device of a plan begins: its timelines are 0, and nothing is submitted
 abbrev pub first_state : DevicePlan → VkState
 first_state plan = record {
-  words = map first_words plan.buffers;
   timelines = replicate plan.timelines 0;
   journal = [];
   lanes = replicate plan.queues no_lane;
 }
-
--- the words of a buffer; none for a buffer that is not there
-abbrev pub words_of : VkState → ℕ → List ℕ
-words_of v buffer = slice_index_or v.words buffer []
 
 -- the value of a timeline; 0 for one that is not there
 abbrev pub counter_of : VkState → ℕ → ℕ

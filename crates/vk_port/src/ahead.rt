@@ -1,9 +1,10 @@
 //! What the commands that are not done hold back.
 
-ghost use Rattle.std.specs.Prelude.{◌≡◌};
+ghost use Rattle.std.specs.Prelude.{◌≡◌, true};
 ghost use Rattle.vk_port.specs.Ahead.{no_ahead, with_stages, with_command, lets_stages, lets, summary};
 ghost use Rattle.vk_port.specs.DeviceStages.{is_closed, is_of_device as does_wait};
 ghost use Rattle.vk_port.specs.Enabled.{undone};
+ghost use Rattle.vk_port.specs.Fronts.{is_done_to};
 
 use crate::lanes::Running;
 use vk_types::{Stages, VkCommand};
@@ -82,13 +83,14 @@ impl Ahead {
         self.to & 7 == 7
     }
 
-    /// The commands of a batch that are not done, too.
-    pub fn with_undone(self, running: &Running) -> Ahead
+    /// The commands of a batch that are not done, too. Those in front of the place `from` are.
+    pub fn with_undone(self, running: &Running, from: usize) -> Ahead
+        requires { is_done_to from running.now ≡ true }
         ensures { result ≡ summary self (undone running.now) }
     {
         let mut ahead = self;
         let count = running.batch.commands.len().min(running.done.len());
-        for i in 0..count {
+        for i in from..count {
             if *running.done.at(i) {
                 continue;
             }

@@ -6,8 +6,13 @@ ghost use Rattle.vk_port.specs.declared.steps.Stepped.TheVariants.{Free};
 ghost use Rattle.vk_port.specs.Causes.{HasCause};
 ghost use Rattle.vk_port.specs.Offers.{steps_offered, rest_taken, IsInside};
 ghost use Rattle.vk_port.specs.Plans.{has_only_buffers};
-ghost use Rattle.vk_port.specs.VkState.{VkState, first_state, words_of, counter_of};
-ghost use Rattle.vk_port.specs.VkSteps.{enabled_steps, after_step, after_submit, after_host_write, after_host_read, range_of, next_number, fits_plan};
+ghost use Rattle.vk_port.specs.VkState.{VkState, first_state, counter_of};
+ghost use Rattle.vk_port.specs.Agreement.{Agree, host_numbers};
+ghost use Rattle.vk_port.specs.Machine.{after_stepped};
+ghost use Rattle.vk_sync_rules.specs.Rules.{after_step as after_vk_step};
+ghost use Rattle.vk_sync_rules.specs.VkState.{VkState as Machine, first_state as first_machine};
+ghost use Rattle.vk_types.specs.declared.steps.VkStep.TheVariants.{Submit, HostWrite, HostRead};
+ghost use Rattle.vk_port.specs.VkSteps.{enabled_steps, after_step, after_submit, next_number, fits_plan};
 
 use crate::faults::DeviceFault;
 use crate::sets::Sets;
@@ -21,6 +26,8 @@ pub trait VkDevice {
     ghost plan_of: { Self → Option DevicePlan };
     /// The state of the Vulkan machine.
     ghost state: { Self → VkState };
+    /// The state of the Vulkan machine with what was accessed, and what is seen where.
+    ghost machine: { Self → Machine };
     /// How many free steps the device can still take.
     ghost rest_of: { Self → ℕ };
     /// How many free steps it offers now.
@@ -37,8 +44,10 @@ pub trait VkDevice {
         ensures plan { OnOk result (plan_of self.new ≡ Some plan.now) }
         ensures state { OnOk result (state self.new ≡ first_state plan.now) }
         ensures rest { rest_of self.new ≡ rest_of self.old }
+        ensures machine { OnOk result (machine self.new ≡ first_machine plan.now) }
         ensures same_plan { OnErr result (plan_of self.new ≡ None) }
         ensures same_state { OnErr result (state self.new ≡ state self.old) }
+        ensures same_machine { OnErr result (machine self.new ≡ machine self.old) }
         ensures faults { faults self.old ≤ faults self.new }
         ensures cause { HasCause (faults self.old) (faults self.new) result };
 
@@ -49,9 +58,11 @@ pub trait VkDevice {
         requires plan { IsSome (plan_of self.old) }
         requires fits { IfSome (plan_of self.old) (λ plan. fits_plan plan batch ≡ true) }
         ensures state { OnOk result (state self.new ≡ after_submit (state self.old) batch) }
+        ensures machine { OnOk result (machine self.new ≡ after_vk_step (machine self.old) (Submit batch)) }
         ensures plan { plan_of self.new ≡ plan_of self.old }
         ensures rest { rest_of self.new ≡ rest_of self.old }
         ensures same_state { OnErr result (state self.new ≡ state self.old) }
+        ensures same_machine { OnErr result (machine self.new ≡ machine self.old) }
         ensures faults { faults self.old ≤ faults self.new }
         ensures cause { HasCause (faults self.old) (faults self.new) result };
 
@@ -64,23 +75,25 @@ pub trait VkDevice {
     /// Words of a buffer, from the word `first` on.
     fn host_read(&mut self, buffer: u32, first: u32, count: u32) -> Result<Vec<u32>, DeviceFault>
         requires plan { IsSome (plan_of self.old) }
-        requires inside { IsInside (state self.old) buffer first count }
-        ensures words { IfOk result (λ read. read.items ≡ range_of first count (words_of (state self.old) buffer)) }
-        ensures state { OnOk result (state self.new ≡ after_host_read (state self.old) buffer first count) }
+        requires inside { IsInside (machine self.old) buffer first count }
+        ensures seen { IfOk result (λ read. Agree read.items (host_numbers (machine self.old) buffer first count)) }
+        ensures state { state self.new ≡ state self.old }
+        ensures machine { IfOk result (λ read. machine self.new ≡ after_vk_step (machine self.old) (HostRead buffer first read.items)) }
         ensures plan { plan_of self.new ≡ plan_of self.old }
         ensures rest { rest_of self.new ≡ rest_of self.old }
-        ensures same_state { OnErr result (state self.new ≡ state self.old) }
+        ensures same_machine { OnErr result (machine self.new ≡ machine self.old) }
         ensures faults { faults self.old ≤ faults self.new }
         ensures cause { HasCause (faults self.old) (faults self.new) result };
 
     /// Writes words into a buffer, from the word `first` on.
     fn host_write(&mut self, buffer: u32, first: u32, words: &[u32]) -> Result<(), DeviceFault>
         requires plan { IsSome (plan_of self.old) }
-        requires inside { IsInside (state self.old) buffer first (length words.now) }
-        ensures state { OnOk result (state self.new ≡ after_host_write (state self.old) buffer first words.now) }
+        requires inside { IsInside (machine self.old) buffer first (length words.now) }
+        ensures state { state self.new ≡ state self.old }
+        ensures machine { OnOk result (machine self.new ≡ after_vk_step (machine self.old) (HostWrite buffer first words.now)) }
         ensures plan { plan_of self.new ≡ plan_of self.old }
         ensures rest { rest_of self.new ≡ rest_of self.old }
-        ensures same_state { OnErr result (state self.new ≡ state self.old) }
+        ensures same_machine { OnErr result (machine self.new ≡ machine self.old) }
         ensures faults { faults self.old ≤ faults self.new }
         ensures cause { HasCause (faults self.old) (faults self.new) result };
 
@@ -101,11 +114,13 @@ pub trait VkDevice {
         ensures named { k < length (enabled_steps (state self.old)) → IfOk result (λ s. slice_get (enabled_steps (state self.old)) k ≡ Some s) }
         ensures free { length (enabled_steps (state self.old)) ≤ k → IfOk result (λ s. s ≡ Free) }
         ensures state { IfOk result (λ s. state self.new ≡ after_step (state self.old) s) }
+        ensures machine { IfOk result (λ s. machine self.new ≡ after_stepped (machine self.old) s []) }
         ensures rest { IfOk result (λ s. rest_of self.old ≡ rest_of self.new + rest_taken s) }
         ensures loads { S.given sets.new ≡ [] }
         ensures sizes { S.sizes sets.new ≡ S.sizes sets.old }
         ensures plan { plan_of self.new ≡ plan_of self.old }
         ensures same_state { OnErr result (state self.new ≡ state self.old) }
+        ensures same_machine { OnErr result (machine self.new ≡ machine self.old) }
         ensures same_rest { OnErr result (rest_of self.new ≡ rest_of self.old) }
         ensures faults { faults self.old ≤ faults self.new }
         ensures cause { HasCause (faults self.old) (faults self.new) result };

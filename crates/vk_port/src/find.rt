@@ -1,13 +1,15 @@
 //! The search for the step at a place among those that can be taken.
 
-ghost use Rattle.std.specs.Prelude.{◌≡◌, ◌<◌, ◌+◌, ◌&&◌, [], length, take, true};
+ghost use Rattle.std.specs.Prelude.{◌≡◌, ◌<◌, ◌+◌, ◌&&◌, ◌++◌, ◌-◌, ◌^◌, min, [], length, take, true};
 ghost use Rattle.vk_port.specs.Ahead.{batch_steps, lane_steps};
 ghost use Rattle.vk_port.specs.Enabled.{ready_pass, passes, lane_commands, commands, all_done, ready_bump, bumps};
 ghost use Rattle.vk_port.specs.DeviceStages.{batch_of_device, lane_of_device, lanes_of_device, is_closed};
 ghost use Rattle.vk_port.specs.Found.{found};
+ghost use Rattle.vk_port.specs.Fronts.{is_done_to, is_front, are_fronts, ready_steps, count_of};
 
 use crate::ahead::Ahead;
 use crate::found::{Found, find_if};
+use crate::fronts::Front;
 use crate::lanes::{Lane, Running};
 use crate::steps::Stepped;
 use dx_base::Seq;
@@ -28,7 +30,7 @@ fn find_pass(timelines: &Seq<u64>, queue: u32, lane: &Lane, k: usize) -> Found
 }
 
 /// Searches the passes by queue.
-pub fn find_passes(timelines: &Seq<u64>, lanes: &Seq<Lane>, queues: u32, k: usize) -> Found
+fn find_passes(timelines: &Seq<u64>, lanes: &Seq<Lane>, queues: u32, k: usize) -> Found
     requires { length lanes.now ≡ queues }
     ensures { result ≡ found (passes timelines.now 0 lanes.now) k }
 {
@@ -64,7 +66,7 @@ fn find_bump(queue: u32, lane: &Lane, k: usize) -> Found
 }
 
 /// Searches the ends of batches by queue.
-pub fn find_bumps(lanes: &Seq<Lane>, queues: u32, k: usize) -> Found
+fn find_bumps(lanes: &Seq<Lane>, queues: u32, k: usize) -> Found
     requires { length lanes.now ≡ queues }
     ensures { result ≡ found (bumps 0 lanes.now) k }
 {
@@ -86,16 +88,24 @@ fn is_last(of_device: bool, ahead: Ahead) -> bool
     of_device && ahead.is_closed()
 }
 
-/// Searches the commands of a batch by place. Where each command waits for a stage of the device, it does not look behind a
-/// barrier that is not done and has all of them behind it.
-fn find_in_batch(queue: u32, running: &Running, before: Ahead, of_device: bool, k: usize) -> Found
-    requires { of_device ≡ true → batch_of_device running.now ≡ true }
+/// Searches the commands of a batch by place. Those in front of the place `from` are done. Where each command waits for a
+/// stage of the device, it does not look behind a barrier that is not done and has all of them behind it.
+fn find_in_batch(
+    queue: u32,
+    running: &Running,
+    from: usize,
+    before: Ahead,
+    of_device: bool,
+    k: usize,
+) -> Found
+    requires front { is_done_to from running.now ≡ true }
+    requires stages { of_device ≡ true → batch_of_device running.now ≡ true }
     ensures { result ≡ found (batch_steps queue running.now.batch.number 1 before running.now.batch.commands running.now.done) k }
 {
     let mut ahead = before;
     let mut left = k;
     let count = running.batch.commands.len().min(running.done.len());
-    for i in 0..count {
+    for i in from..count {
         if *running.done.at(i) {
             continue;
         }
@@ -113,21 +123,24 @@ fn find_in_batch(queue: u32, running: &Running, before: Ahead, of_device: bool, 
     Found::Left(left)
 }
 
-/// Searches the commands of a lane by batch. Where each command waits for a stage of the device, it does not look behind a
-/// barrier that is not done and has all of them behind it.
-fn find_in_lane(queue: u32, lane: &Lane, of_device: bool, k: usize) -> Found
-    requires { of_device ≡ true → lane_of_device lane.now ≡ true }
+/// Searches the commands of a lane by batch, from its place on. Where each command waits for a stage of the device, it does
+/// not look behind a barrier that is not done and has all of them behind it.
+fn find_in_lane(queue: u32, lane: &Lane, front: Front, of_device: bool, k: usize) -> Found
+    requires front { is_front front lane.now ≡ true }
+    requires stages { of_device ≡ true → lane_of_device lane.now ≡ true }
     ensures { result ≡ found (lane_commands queue [] (take lane.now.passed lane.now.batches)) k }
 {
     let mut ahead = Ahead::none();
     let mut left = k;
-    for i in 0..lane.passed.min(lane.batches.len()) {
+    let mut from = front.command;
+    for i in front.batch..lane.passed.min(lane.batches.len()) {
         let running = lane.batches.at(i);
-        match find_in_batch(queue, running, ahead, of_device, left) {
+        match find_in_batch(queue, running, from, ahead, of_device, left) {
             Found::At(step) => return Found::At(step),
             Found::Left(rest) => left = rest,
         }
-        ahead = ahead.with_undone(running);
+        ahead = ahead.with_undone(running, from);
+        from = 0;
         if is_last(of_device, ahead) {
             return Found::Left(left);
         }
@@ -136,17 +149,112 @@ fn find_in_lane(queue: u32, lane: &Lane, of_device: bool, k: usize) -> Found
 }
 
 /// Searches the commands by queue. `of_device` says that each command waits for a stage of the device.
-pub fn find_commands(lanes: &Seq<Lane>, queues: u32, of_device: bool, k: usize) -> Found
+fn find_commands(
+    lanes: &Seq<Lane>,
+    fronts: &Seq<Front>,
+    queues: u32,
+    of_device: bool,
+    k: usize,
+) -> Found
     requires queues { length lanes.now ≡ queues }
+    requires each { length fronts.now ≡ queues }
+    requires fronts { are_fronts fronts.now lanes.now ≡ true }
     requires stages { of_device ≡ true → lanes_of_device lanes.now ≡ true }
     ensures { result ≡ found (commands 0 lanes.now) k }
 {
     let mut left = k;
     for queue in 0..queues {
-        match find_in_lane(queue, lanes.at(queue as usize), of_device, left) {
+        let lane = lanes.at(queue as usize);
+        let front = *fronts.at(queue as usize);
+        match find_in_lane(queue, lane, front, of_device, left) {
             Found::At(step) => return Found::At(step),
             Found::Left(rest) => left = rest,
         }
     }
     Found::Left(left)
+}
+
+/// Searches the commands and the ends.
+fn find_behind_passes(
+    lanes: &Seq<Lane>,
+    fronts: &Seq<Front>,
+    queues: u32,
+    of_device: bool,
+    k: usize,
+) -> Found
+    requires queues { length lanes.now ≡ queues }
+    requires each { length fronts.now ≡ queues }
+    requires fronts { are_fronts fronts.now lanes.now ≡ true }
+    requires stages { of_device ≡ true → lanes_of_device lanes.now ≡ true }
+    ensures { result ≡ found (commands 0 lanes.now ++ bumps 0 lanes.now) k }
+{
+    match find_commands(lanes, fronts, queues, of_device, k) {
+        Found::At(step) => Found::At(step),
+        Found::Left(left) => find_bumps(lanes, queues, left),
+    }
+}
+
+/// Searches the step at a place among those that can be taken.
+pub fn find_step(
+    timelines: &Seq<u64>,
+    lanes: &Seq<Lane>,
+    fronts: &Seq<Front>,
+    queues: u32,
+    of_device: bool,
+    k: usize,
+) -> Found
+    requires queues { length lanes.now ≡ queues }
+    requires each { length fronts.now ≡ queues }
+    requires fronts { are_fronts fronts.now lanes.now ≡ true }
+    requires stages { of_device ≡ true → lanes_of_device lanes.now ≡ true }
+    ensures { result ≡ found (ready_steps timelines.now lanes.now) k }
+{
+    match find_passes(timelines, lanes, queues, k) {
+        Found::At(step) => Found::At(step),
+        Found::Left(left) => find_behind_passes(lanes, fronts, queues, of_device, left),
+    }
+}
+
+/// How many steps can be taken; the last `usize`, where there are more.
+pub fn count_steps(
+    timelines: &Seq<u64>,
+    lanes: &Seq<Lane>,
+    fronts: &Seq<Front>,
+    queues: u32,
+    of_device: bool,
+) -> usize
+    requires queues { length lanes.now ≡ queues }
+    requires each { length fronts.now ≡ queues }
+    requires fronts { are_fronts fronts.now lanes.now ≡ true }
+    requires stages { of_device ≡ true → lanes_of_device lanes.now ≡ true }
+    ensures { result ≡ count_of (ready_steps timelines.now lanes.now) }
+{
+    match find_step(timelines, lanes, fronts, queues, of_device, usize::MAX) {
+        Found::At(_) => usize::MAX,
+        Found::Left(left) => usize::MAX - left,
+    }
+}
+
+/// How many steps can be taken behind a command: one fewer than before, where one that works alike is left in front.
+pub fn count_behind(
+    timelines: &Seq<u64>,
+    lanes: &Seq<Lane>,
+    fronts: &Seq<Front>,
+    queues: u32,
+    of_device: bool,
+    before: usize,
+    alike: bool,
+) -> usize
+    requires queues { length lanes.now ≡ queues }
+    requires each { length fronts.now ≡ queues }
+    requires fronts { are_fronts fronts.now lanes.now ≡ true }
+    requires stages { of_device ≡ true → lanes_of_device lanes.now ≡ true }
+    requires fewer { alike ≡ true → before ≡ min (length (ready_steps timelines.now lanes.now) + 1) (2 ^ 64 - 1) }
+    ensures { result ≡ count_of (ready_steps timelines.now lanes.now) }
+{
+    if alike && before < usize::MAX {
+        before - 1
+    } else {
+        count_steps(timelines, lanes, fronts, queues, of_device)
+    }
 }

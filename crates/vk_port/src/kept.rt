@@ -21,11 +21,16 @@ impl Model for Kept {
 /// Something that was done with a device.
 #[derive(Clone, Copy, Drop)]
 pub enum Note<'a> {
+    /// The objects of a plan were made.
     Create(&'a DevicePlan),
+    /// A batch was submitted.
     Submit(&'a Batch),
-    Step(Stepped),
+    /// A step, and what the slots gave that it loaded.
+    Step(Stepped, &'a [u32]),
+    /// A buffer, the first of its words, and what was written.
     HostWrite(u32, u32, &'a [u32]),
-    HostRead(u32, u32, u32),
+    /// A buffer, the first of its words, and what was read.
+    HostRead(u32, u32, &'a [u32]),
 }
 
 impl Kept {

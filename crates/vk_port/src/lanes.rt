@@ -1,11 +1,13 @@
 //! The unfinished batches of a queue.
 
-ghost use Rattle.std.specs.Prelude.{◌≡◌, ◌<◌, length, IfOk, OnOk, OnErr};
+ghost use Rattle.std.specs.Prelude.{◌≡◌, ◌<◌, length, true, IfOk, OnOk, OnErr};
 ghost use Rattle.vk_port.specs.After.{place_of, command_at, with_done, lane_after_run, lane_after_pass, lane_after_bump, started, with_batch};
 ghost use Rattle.vk_port.specs.DeviceStages.{batch_of_device};
+ghost use Rattle.vk_port.specs.Fronts.{is_numbered};
 ghost use Rattle.vk_port.specs.VkState.{no_lane};
 
 use crate::ahead::is_of_device;
+use crate::batches::Batches;
 use dx_base::{Memory, Seq};
 use std::alloc::Global;
 use vk_types::{Batch, VkCommand};
@@ -52,9 +54,9 @@ impl Running {
 }
 
 /// A queue's unfinished batches, oldest first, and how many of them have passed.
-#[derive(Debug, PartialEq, Eq, Drop)]
+#[derive(Debug, Drop)]
 pub struct Lane {
-    pub batches: Seq<Running>,
+    pub batches: Batches,
     pub passed: usize,
 }
 
@@ -64,25 +66,34 @@ impl Lane {
         ensures { result ≡ no_lane }
     {
         Lane {
-            batches: Seq::new(alloc),
+            batches: Batches::new(alloc),
             passed: 0,
         }
     }
 
-    /// The place of the first batch of a number; how many batches there are, where there is none.
+    /// The place of the first batch of a number; how many batches there are, where there is none. They are numbered
+    /// without a gap, so that none is looked at but the first.
     fn place_of(&self, number: u64) -> usize
+        requires { is_numbered self.now ≡ true }
         ensures { result ≡ place_of number self.now.batches }
     {
-        for i in 0..self.batches.len() {
-            if self.batches.at(i).batch.number == number {
-                return i;
+        match self.batches.get(0) {
+            None => 0,
+            Some(first) => {
+                if number < first.batch.number {
+                    self.batches.len()
+                } else {
+                    self.batches
+                        .len()
+                        .min((number - first.batch.number) as usize)
+                }
             }
         }
-        self.batches.len()
     }
 
     /// A command of the batch of a number; its place is counted from 1.
     pub fn command_at(&self, number: u64, place: u64) -> Option<VkCommand>
+        requires { is_numbered self.now ≡ true }
         ensures { result ≡ command_at number place self.now.batches }
     {
         match self.batches.get(self.place_of(number)) {
@@ -96,11 +107,12 @@ impl Lane {
 
     /// Marks a command of the batch of a number as done; its place is counted from 1.
     pub fn mark(&mut self, number: u64, place: u64)
+        requires { is_numbered self.old ≡ true }
         ensures { self.new ≡ lane_after_run number place self.old }
     {
         let at = self.place_of(number);
         if at < self.batches.len() {
-            self.batches.at_mut(at).mark(place);
+            self.batches.mark(at, place);
         }
     }
 
@@ -119,7 +131,7 @@ impl Lane {
         requires { 0 < length self.old.batches }
         ensures { self.new ≡ lane_after_bump self.old }
     {
-        let _first = self.batches.take_first();
+        self.batches.take_first();
         self.passed = self.passed.saturating_sub(1);
     }
 

@@ -1,6 +1,6 @@
 //! Laws of the Vulkan machine. The functions do nothing.
 
-ghost use Rattle.vk_port.specs.Laws.{EachMeans, EachIsOffered, EachFalls, SubmissionsAdd, StaysValid, StaysMatched};
+ghost use Rattle.vk_port.specs.Laws.{EachMeans, EachIsOffered, EachFalls, SubmissionsAdd, StaysValid, StaysMatched, StaysShown, OffersWhatIsEnabled};
 
 /// A step that can be taken means what it says: a pass is of a queue's next batch, whose waits are
 /// reached; a command is of a batch that has passed, and not done, and each earlier command of its queue that
@@ -33,4 +33,16 @@ pub fn states_stay_valid()
 /// The first state has the objects of its plan, and each thing that is done keeps them.
 pub fn states_keep_their_objects()
     ensures { StaysMatched }
+{}
+
+/// The first state is what a device has of the machine's first state, and each thing that is done keeps it so: the
+/// timelines, the journal, and each queue's unfinished batches are those of the machine.
+pub fn states_show_the_machine()
+    ensures { StaysShown }
+{}
+
+/// The steps that are offered are those that the machine can take: each pass, command and end that is offered can be
+/// taken, and each that can be taken is offered.
+pub fn what_is_offered_is_enabled()
+    ensures { OffersWhatIsEnabled }
 {}

@@ -1,7 +1,9 @@
 //! The unfinished batches of all queues.
 
-ghost use Rattle.std.specs.Prelude.{◌≡◌, ◌<◌, length, slice_index_or, replicate, IfOk, OnOk, OnErr};
+ghost use Rattle.std.specs.Prelude.{◌≡◌, ◌<◌, length, slice_index_or, replicate, true, IfOk, OnOk, OnErr};
+ghost use Rattle.std.specs.List.{list_all};
 ghost use Rattle.dx_base.specs.Lists.{changed_at};
+ghost use Rattle.vk_port.specs.Fronts.{is_numbered};
 ghost use Rattle.vk_port.specs.After.{command_at, lane_after_run, lane_after_pass, lane_after_bump, with_batch};
 ghost use Rattle.vk_port.specs.VkState.{no_lane};
 
@@ -24,7 +26,8 @@ pub fn first_lanes(alloc: Global, queues: u32) -> Result<Seq<Lane>, Memory>
 
 /// A command of a batch of a queue; its place is counted from 1.
 pub fn command_of(lanes: &Seq<Lane>, queue: u32, number: u64, place: u64) -> Option<VkCommand>
-    requires { queue < length lanes.now }
+    requires queue { queue < length lanes.now }
+    requires numbered { list_all is_numbered lanes.now ≡ true }
     ensures { result ≡ command_at number place (slice_index_or lanes.now queue no_lane).batches }
 {
     lanes.at(queue as usize).command_at(number, place)
@@ -32,7 +35,8 @@ pub fn command_of(lanes: &Seq<Lane>, queue: u32, number: u64, place: u64) -> Opt
 
 /// Marks a command of a batch of a queue as done; its place is counted from 1.
 pub fn mark(lanes: &mut Seq<Lane>, queue: u32, number: u64, place: u64)
-    requires { queue < length lanes.old }
+    requires queue { queue < length lanes.old }
+    requires numbered { list_all is_numbered lanes.old ≡ true }
     ensures { lanes.new ≡ changed_at (lane_after_run number place) queue lanes.old }
 {
     lanes.at_mut(queue as usize).mark(number, place);

@@ -1,10 +1,13 @@
 //! What a plain device stores.
 
-ghost use Rattle.std.specs.Prelude.{◌≡◌, ◌<◌, ◌-◌, ◌^◌, ◌++◌, ◌&&◌, min, length, true, IfOk, OnOk, OnErr};
+ghost use Rattle.std.specs.Prelude.{◌≡◌, ◌<◌, ◌&&◌, [], length, map, true, IfOk, OnOk, OnErr};
 ghost use Rattle.vk_port.specs.DeviceStages.{batch_of_device, lanes_of_device};
+ghost use Rattle.vk_port.specs.Fronts.{are_fronts, ready_steps, count_of};
+ghost use Rattle.vk_port.specs.Valid.{AreValidLanes};
 
-use crate::find::{find_bumps, find_commands, find_passes};
+use crate::find::{count_behind, count_steps, find_step};
 use crate::found::Found;
+use crate::fronts::{self, Front};
 use crate::lanes::{Lane, Running};
 use crate::queues;
 use crate::steps::Stepped;
@@ -25,7 +28,15 @@ pub struct Store {
     pub queues: u32,
     /// Whether each command so far waits for a stage of the device. It is asked once, when a batch comes.
     pub of_device: bool,
+    /// How far the commands of each lane are done without a gap.
+    pub fronts: Seq<Front>,
+    /// How many steps can be taken; the last `usize`, where there are more.
+    pub ready: usize,
     ghost counted: { length lanes ≡ queues },
+    ghost each: { length fronts ≡ queues },
+    ghost done: { are_fronts fronts lanes ≡ true },
+    ghost valid: { ∥ AreValidLanes journal.items lanes ∥₁ },
+    ghost ready_is: { ready ≡ count_of (ready_steps timelines lanes) },
     ghost known: { of_device ≡ true → lanes_of_device lanes ≡ true },
 }
 
@@ -37,18 +48,22 @@ fn all_of_device(so_far: bool, running: &Running) -> bool
 }
 
 impl Store {
+    ghost use Rattle.vk_port.specs.After.{after_step, after_submit, put};
+    ghost use Rattle.vk_port.specs.Words.{words_after, first_words as words_at_first};
     ghost use Rattle.dx_base.specs.Lists.{changed_at};
-    ghost use Rattle.vk_port.specs.After.{after_step, after_submit, after_host_write, after_sets, sets_of, lane_after_bump};
-    ghost use Rattle.vk_port.specs.Enabled.{enabled_steps, commands, bumps};
+    ghost use Rattle.vk_port.specs.Enabled.{enabled_steps};
+    ghost use Rattle.vk_port.specs.Meaning.{IsEnabled, IsPass, IsCommand, IsBump};
+    ghost use Rattle.vk_port.specs.Journal.{next_number};
     ghost use Rattle.vk_port.specs.Found.{found};
     ghost use Rattle.vk_port.specs.Seen.{no_state};
-    ghost use Rattle.vk_port.specs.Stored.{state_of, IsTakable};
-    ghost use Rattle.vk_port.specs.VkState.{first_state, lane_of};
-    ghost use Rattle.vk_port.specs.declared.steps.Stepped.TheVariants.{Ran};
+    ghost use Rattle.vk_port.specs.Stored.{state_of};
+    ghost use Rattle.vk_port.specs.VkState.{first_state};
+    ghost use Rattle.vk_port.specs.declared.steps.Stepped.TheVariants.{Passed, Ran, Bumped};
 
     /// No objects.
     pub fn empty(alloc: Global) -> Store
         ensures state { state_of result ≡ no_state }
+        ensures words { result.words ≡ [] }
         ensures queues { result.queues ≡ 0 }
     {
         Store {
@@ -58,12 +73,15 @@ impl Store {
             lanes: Seq::new(alloc),
             queues: 0,
             of_device: true,
+            fronts: Seq::new(alloc),
+            ready: 0,
         }
     }
 
     /// The objects of a plan.
     pub fn new(alloc: Global, plan: &DevicePlan) -> Result<Store, Memory>
         ensures state { IfOk result (λ store. state_of store ≡ first_state plan.now) }
+        ensures words { IfOk result (λ store. store.words ≡ map words_at_first plan.now.buffers) }
         ensures queues { IfOk result (λ store. store.queues ≡ plan.now.queues) }
     {
         Ok(Store {
@@ -73,6 +91,8 @@ impl Store {
             lanes: queues::first_lanes(alloc, plan.queues)?,
             queues: plan.queues,
             of_device: true,
+            fronts: fronts::first_fronts(alloc, plan.queues)?,
+            ready: 0,
         })
     }
 
@@ -80,98 +100,135 @@ impl Store {
     pub fn find(&self, k: usize) -> Found
         ensures { result ≡ found (enabled_steps (state_of self.now)) k }
     {
-        match find_passes(&self.timelines, &self.lanes, self.queues, k) {
-            Found::At(step) => Found::At(step),
-            Found::Left(left) => self.find_behind_passes(left),
-        }
+        find_step(
+            &self.timelines,
+            &self.lanes,
+            &self.fronts,
+            self.queues,
+            self.of_device,
+            k,
+        )
     }
 
-    /// Searches behind the passes.
-    fn find_behind_passes(&self, k: usize) -> Found
-        ensures { result ≡ found (commands 0 self.now.lanes ++ bumps 0 self.now.lanes) k }
-    {
-        match find_commands(&self.lanes, self.queues, self.of_device, k) {
-            Found::At(step) => Found::At(step),
-            Found::Left(left) => find_bumps(&self.lanes, self.queues, left),
-        }
-    }
-
-    /// How many steps can be taken; the last `usize`, where there are more.
-    pub fn count(&self) -> usize
-        ensures { result ≡ min (length (enabled_steps (state_of self.now))) (2 ^ 64 - 1) }
-    {
-        match self.find(usize::MAX) {
-            Found::At(_) => usize::MAX,
-            Found::Left(left) => usize::MAX - left,
-        }
-    }
-
-    /// Takes a batch.
+    /// Takes a batch, which has the next number of its queue.
     #[tactic(auto, using(crate::proofs::Lists::length_changed))]
     pub fn submit(&mut self, alloc: Global, batch: Batch) -> Result<(), Memory>
-        requires { batch.queue < self.old.queues }
+        requires queue { batch.queue < self.old.queues }
+        requires number { batch.number ≡ next_number batch.queue self.old.journal.items }
         ensures ok { OnOk result (state_of self.new ≡ after_submit (state_of self.old) batch) }
         ensures same { OnErr result (state_of self.new ≡ state_of self.old) }
+        ensures words { self.new.words ≡ self.old.words }
         ensures queues { self.new.queues ≡ self.old.queues }
     {
         let running = Running::new(alloc, &batch)?;
         let of_device = all_of_device(self.of_device, &running);
         self.journal.reserve()?;
-        queues::add(&mut self.lanes, batch.queue, running)?;
+        let queue = batch.queue;
+        queues::add(&mut self.lanes, queue, running)?;
+        fronts::advance(&mut self.fronts, &self.lanes, queue);
         self.of_device = of_device;
         self.journal.push_reserved(batch);
+        self.ready = count_steps(
+            &self.timelines,
+            &self.lanes,
+            &self.fronts,
+            self.queues,
+            self.of_device,
+        );
         Ok(())
     }
 
-    /// Takes a step.
-    #[tactic(auto, using(crate::proofs::Lists::length_changed))]
+    /// Takes a step that can be taken.
     pub fn take(&mut self, alloc: Global, step: Stepped) -> Result<(), Memory>
-        requires { IsTakable (state_of self.old) step }
+        requires { IsEnabled (state_of self.old) step }
         ensures ok { OnOk result (state_of self.new ≡ after_step (state_of self.old) step) }
+        ensures words { OnOk result (self.new.words ≡ words_after (state_of self.old) step self.old.words) }
         ensures same { OnErr result (state_of self.new ≡ state_of self.old) }
+        ensures same_words { OnErr result (self.new.words ≡ self.old.words) }
         ensures queues { self.new.queues ≡ self.old.queues }
     {
         match step {
-            Stepped::Passed(queue, _) => queues::pass(&mut self.lanes, queue),
+            Stepped::Passed(queue, number) => self.pass(queue, number),
             Stepped::Ran(queue, number, place) => self.run(alloc, queue, number, place)?,
-            Stepped::Bumped(queue, _) => self.bump(queue),
+            Stepped::Bumped(queue, number) => self.bump(queue, number),
             Stepped::Free => (),
         }
         Ok(())
     }
 
-    /// Does one command.
+    /// A batch passes.
+    #[tactic(auto, using(crate::proofs::Lists::length_changed))]
+    fn pass(&mut self, queue: u32, _number: u64)
+        requires { IsPass (state_of self.old) queue _number }
+        ensures state { state_of self.new ≡ after_step (state_of self.old) (Passed queue _number) }
+        ensures words { self.new.words ≡ self.old.words }
+        ensures queues { self.new.queues ≡ self.old.queues }
+    {
+        queues::pass(&mut self.lanes, queue);
+        self.ready = count_steps(
+            &self.timelines,
+            &self.lanes,
+            &self.fronts,
+            self.queues,
+            self.of_device,
+        );
+    }
+
+    /// Does one command. Where one that works alike is left in front, no other step comes or goes.
     #[tactic(auto, using(crate::proofs::Lists::length_changed))]
     fn run(&mut self, alloc: Global, queue: u32, number: u64, place: u64) -> Result<(), Memory>
-        requires { queue < length self.old.lanes }
+        requires { IsCommand (state_of self.old) queue number place }
         ensures ok { OnOk result (state_of self.new ≡ after_step (state_of self.old) (Ran queue number place)) }
+        ensures words { OnOk result (self.new.words ≡ words_after (state_of self.old) (Ran queue number place) self.old.words) }
         ensures same { OnErr result (state_of self.new ≡ state_of self.old) }
+        ensures same_words { OnErr result (self.new.words ≡ self.old.words) }
         ensures queues { self.new.queues ≡ self.old.queues }
     {
         let command = queues::command_of(&self.lanes, queue, number, place);
         run_found(alloc, &mut self.words, command)?;
         queues::mark(&mut self.lanes, queue, number, place);
+        fronts::advance(&mut self.fronts, &self.lanes, queue);
+        let front = *self.fronts.at(queue as usize);
+        let alike = front.has_alike(self.lanes.at(queue as usize), number, command);
+        self.ready = count_behind(
+            &self.timelines,
+            &self.lanes,
+            &self.fronts,
+            self.queues,
+            self.of_device,
+            self.ready,
+            alike,
+        );
         Ok(())
     }
 
     /// Ends the first batch of a queue.
     #[tactic(auto, using(crate::proofs::Lists::length_changed))]
-    fn bump(&mut self, queue: u32)
-        requires queue { queue < length self.old.lanes }
-        requires batch { 0 < length (lane_of (state_of self.old) queue).batches }
-        ensures state { state_of self.new ≡ record (state_of self.old) { timelines = after_sets (sets_of (lane_of (state_of self.old) queue)) self.old.timelines; lanes = changed_at lane_after_bump queue self.old.lanes } }
+    fn bump(&mut self, queue: u32, _number: u64)
+        requires { IsBump (state_of self.old) queue _number }
+        ensures state { state_of self.new ≡ after_step (state_of self.old) (Bumped queue _number) }
+        ensures words { self.new.words ≡ self.old.words }
         ensures queues { self.new.queues ≡ self.old.queues }
     {
         set_timelines(
             &mut self.timelines,
             &self.lanes.at(queue as usize).batches.at(0).batch.sets,
         );
+        fronts::bump(&mut self.fronts, &self.lanes, queue);
         queues::bump(&mut self.lanes, queue);
+        self.ready = count_steps(
+            &self.timelines,
+            &self.lanes,
+            &self.fronts,
+            self.queues,
+            self.of_device,
+        );
     }
 
     /// Writes words of the host.
     pub fn write(&mut self, buffer: u32, first: u32, words: &[u32])
-        ensures state { state_of self.new ≡ after_host_write (state_of self.old) buffer first words.now }
+        ensures state { state_of self.new ≡ state_of self.old }
+        ensures words { self.new.words ≡ changed_at (put first words.now) buffer self.old.words }
         ensures queues { self.new.queues ≡ self.old.queues }
     {
         put_at(&mut self.words, buffer, first, words);

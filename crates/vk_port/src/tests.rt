@@ -1,6 +1,6 @@
 //! Runs written by hand.
 
-ghost use Rattle.std.specs.Prelude.{◌≡◌, [], map, length, None, IfOk, IsSome, IfSome};
+ghost use Rattle.std.specs.Prelude.{◌≡◌, [], ◌∷◌, map, length, None, IfOk, IsSome, IfSome};
 ghost use Rattle.vk_port.specs.Examples.{two_buffers, one_copy};
 ghost use Rattle.vk_port.specs.Seen.{no_state};
 
@@ -72,12 +72,13 @@ fn copy_of(alloc: Global, queue: u32, number: u64, first: u32) -> Result<Batch, 
 }
 
 /// Takes the step of that place, if there is one. The sizes of the buffers stay.
-#[tactic(auto, using(crate::proofs::Matching::step_sizes))]
+#[tactic(auto, using(crate::proofs::MachineSizes::step_sizes))]
 fn take<D: VkDevice>(device: &mut D, k: usize) -> Result<Stepped, DeviceFault>
     requires plan { IsSome (D.plan_of device.old) }
     requires heaps { IfSome (D.plan_of device.old) (λ plan. plan.heaps ≡ []) }
+    requires sizes { map length (D.machine device.old).numbers.buffers ≡ 4 ∷ 4 ∷ [] }
     ensures plan { D.plan_of device.new ≡ D.plan_of device.old }
-    ensures sizes { map length (D.state device.new).words ≡ map length (D.state device.old).words }
+    ensures sizes { map length (D.machine device.new).numbers.buffers ≡ 4 ∷ 4 ∷ [] }
 {
     if k < device.enabled() {
         let step = device.step(k, &mut NoSets)?;
@@ -95,8 +96,9 @@ fn run<D: VkDevice>(
 ) -> Result<Seq<Stepped>, DeviceFault>
     requires plan { IsSome (D.plan_of device.old) }
     requires heaps { IfSome (D.plan_of device.old) (λ plan. plan.heaps ≡ []) }
+    requires sizes { map length (D.machine device.old).numbers.buffers ≡ 4 ∷ 4 ∷ [] }
     ensures plan { D.plan_of device.new ≡ D.plan_of device.old }
-    ensures sizes { map length (D.state device.new).words ≡ map length (D.state device.old).words }
+    ensures sizes { map length (D.machine device.new).numbers.buffers ≡ 4 ∷ 4 ∷ [] }
 {
     let mut taken = Seq::new(alloc);
     for choice in choices {
@@ -142,8 +144,9 @@ fn takes<D: VkDevice>(
 ) -> Result<(), DeviceFault>
     requires plan { IsSome (D.plan_of device.old) }
     requires heaps { IfSome (D.plan_of device.old) (λ plan. plan.heaps ≡ []) }
+    requires sizes { map length (D.machine device.old).numbers.buffers ≡ 4 ∷ 4 ∷ [] }
     ensures plan { D.plan_of device.new ≡ D.plan_of device.old }
-    ensures sizes { map length (D.state device.new).words ≡ map length (D.state device.old).words }
+    ensures sizes { map length (D.machine device.new).numbers.buffers ≡ 4 ∷ 4 ∷ [] }
 {
     let taken = run(alloc, device, places)?;
     assert_eq!(rt; taken.as_slice(), steps);
@@ -151,6 +154,7 @@ fn takes<D: VkDevice>(
 }
 
 /// Submits one copy to a new device, and takes its steps.
+#[tactic(auto, using(crate::proofs::Examples::all_inside, crate::proofs::Examples::sizes_written))]
 fn one_copy_runs(
     rt: &impl Abort,
     alloc: Global,
@@ -178,6 +182,7 @@ fn one_copy_runs(
 }
 
 /// Submits two copies to two queues of a new device, and takes steps of both.
+#[tactic(auto, using(crate::proofs::Examples::all_inside, crate::proofs::Examples::sizes_written))]
 fn two_copies_overlap(
     rt: &impl Abort,
     alloc: Global,
@@ -247,6 +252,7 @@ fn batches_of_two_queues_overlap(rt: HostRuntime) -> Result<(), Fail> {
 }
 
 /// The number of the first of five calls on a new device that answers `Lost`; 0, where none does.
+#[tactic(auto, using(crate::proofs::Examples::all_inside, crate::proofs::Examples::sizes_written))]
 fn first_lost(
     alloc: Global,
     device: &mut PlainDevice,

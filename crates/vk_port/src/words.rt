@@ -3,7 +3,7 @@
 ghost use Rattle.std.specs.Prelude.{◌≡◌, [], map, slice_index_or, IfOk, OnOk, OnErr};
 ghost use Rattle.dx_base.specs.Lists.{changed_at};
 ghost use Rattle.vk_port.specs.After.{put, range_of, after_command, after_found};
-ghost use Rattle.vk_port.specs.VkState.{first_words as words_at_first};
+ghost use Rattle.vk_port.specs.Words.{first_words as words_at_first};
 
 use dx_base::{Memory, Seq};
 use std::alloc::Global;

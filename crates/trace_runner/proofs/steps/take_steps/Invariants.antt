@@ -9,12 +9,12 @@ use Rattle.trace_runner.proofs.steps.take_steps.Given as goal
 abbrev pub invariant-loop-sys : goal.invariant-loop-sys
 invariant-loop-sys g l = record {
   went : (rest : ℕ) →
-      Went l.initial.sys.world rest (g.D.VkDevice.rest_of l.initial.sys.device) l.initial.log.choices.items l.initial.log.taken.items l.initial.sys.history (g.D.VkDevice.state l.initial.sys.device) →
-      Went l.sys.world rest (g.D.VkDevice.rest_of l.sys.device) l.log.choices.items l.log.taken.items l.sys.history (g.D.VkDevice.state l.sys.device);
+      Went l.initial.sys.world rest (g.D.VkDevice.rest_of l.initial.sys.device) l.initial.log.choices.items l.initial.log.taken.items l.initial.sys.history (g.D.VkDevice.state l.initial.sys.device) (g.D.VkDevice.machine l.initial.sys.device) →
+      Went l.sys.world rest (g.D.VkDevice.rest_of l.sys.device) l.log.choices.items l.log.taken.items l.sys.history (g.D.VkDevice.state l.sys.device) (g.D.VkDevice.machine l.sys.device);
   equal : length l.log.choices.items ≡ length l.log.taken.items;
   world : l.sys.world ≡ l.initial.sys.world;
-  system : IsSystem l.sys.world l.sys.history (g.D.VkDevice.state l.sys.device);
-  whole : IsWhole l.sys.world l.sys.history (g.D.VkDevice.state l.sys.device);
+  system : IsSystem l.sys.world l.sys.history (g.D.VkDevice.state l.sys.device) (g.D.VkDevice.machine l.sys.device);
+  whole : IsWhole l.sys.world l.sys.history (g.D.VkDevice.state l.sys.device) (g.D.VkDevice.machine l.sys.device);
   given : g.C.Chooser.given l.choices ≡ l.log.choices.items;
   started : g.C.Chooser.started l.choices ≡ g.C.Chooser.started l.initial.choices;
   faults : g.D.VkDevice.faults l.initial.sys.device ≤ g.D.VkDevice.faults l.sys.device;

@@ -1,8 +1,9 @@
 -- Each turn searches one command that is not done.
-use Rattle.std.proofs.Common.{◌<◌, ◌+◌, ◌∙◌, length, arith, sym, ap}
+use Rattle.std.proofs.Common.{◌≡◌, ◌<◌, ◌+◌, ◌∙◌, length, arith, sym, ap}
 use Rattle.std.proofs.lemmas.Bool.{and_parts}
 use Rattle.vk_port.specs.DeviceStages.{is_closed}
 use Rattle.vk_port.specs.Found.{found}
+use Rattle.vk_port.proofs.LanePlaces.{steps_from}
 use Rattle.vk_port.proofs.Searching.{batch_ends, batch_goes_on, batch_is_through}
 use Rattle.vk_port.proofs.Summing.{steps_skip, steps_end}
 use Rattle.vk_port.proofs.find.find_in_batch.Goals as goal
@@ -34,4 +35,10 @@ returns-then-is_last c =
     let both = and_parts c.args.of_device (is_closed c.with-ahead.result) (sym c.is_last.ensures ∙ c.if-is_last.true) in
     batch_is_through c.args.queue c.args.running.now.batch.number (c.loop-i.i + 1) c.loop-i.ahead c.args.running.now.batch.commands c.args.running.now.done c.loop-i.i
     c.at.result.now c.at-command.result.now c.at-command.ensures c.at.ensures c.if-at.false _ c.loop-i.left c.loop-i.invariant c.lets.result c.lets.ensures c.in-Left.rest
-    c.with-ahead.result c.with-ahead.ensures c.in-Left.ensures both.1 (c.requires both.0)
+    c.with-ahead.result c.with-ahead.ensures c.in-Left.ensures both.1 (c.requires.stages both.0)
+
+pub loop-i-init : goal.loop-i-init
+loop-i-init c =
+    let place : 1 + c.args.from ≡ c.args.from + 1 = omega arith in
+    let behind = steps_from c.args.queue c.args.running.now.batch.number 1 c.args.before c.args.running.now.batch.commands c.args.running.now.done c.args.from c.requires.front in
+    ap (λ steps. found steps c.args.k) (rw place at behind)

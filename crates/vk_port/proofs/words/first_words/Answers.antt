@@ -1,6 +1,6 @@
 -- Each turn makes the words of one buffer.
 use Rattle.std.proofs.Common.{sym}
-use Rattle.vk_port.specs.VkState.{first_words}
+use Rattle.vk_port.specs.Words.{first_words}
 use Rattle.vk_port.proofs.Lists.{mapped_more}
 use Rattle.vk_port.proofs.words.first_words.Goals as goal
 

@@ -1,6 +1,6 @@
 -- The words of the buffers so far.
 use Rattle.std.proofs.Common.{◌≡◌, map, take}
-use Rattle.vk_port.specs.VkState.{first_words}
+use Rattle.vk_port.specs.Words.{first_words}
 use Rattle.vk_port.proofs.words.first_words.Given as goal
 
 abbrev pub invariant-loop-i : goal.invariant-loop-i

@@ -5,10 +5,11 @@ use Rattle.sys_core.proofs.sys.Sys.over.Goals as goal
 
 pub returns-else-self-eq0-clause-system : goal.returns-else-self-eq0-clause-system
 returns-else-self-eq0-clause-system g c =
-    subst (λ v. IsSystem v.world v.history (g.D.VkDevice.state v.device)) c.self.view_is
+    subst (λ v. IsSystem v.world v.history (g.D.VkDevice.state v.device) (g.D.VkDevice.machine v.device)) c.self.view_is
     (record {
       world = c.self.invariant.keeps.consistent.world;
       queues = c.self.invariant.queues;
       run = c.self.invariant.keeps.consistent.run;
       device = c.self.invariant.keeps.consistent.device;
+      machine = c.self.invariant.keeps.machine_is;
     })

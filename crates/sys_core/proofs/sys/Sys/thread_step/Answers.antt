@@ -1,43 +1,40 @@
 -- What the step leaves.
-use Rattle.std.proofs.Common.{◌≡◌, sym, subst, refl, true, OnOk}
+use Rattle.std.proofs.Common.{subst, refl, OnOk}
 use Rattle.sys_core.specs.Goes.{WasTaken}
-use Rattle.sys_core.specs.Steps.{is_ready_thread}
 use Rattle.dx_base.specs.declared.steps.Step.TheVariants as step
-use Rattle.sys_core.specs.Keeps.{IsSystem}
 use Rattle.sys_core.proofs.Refusing as refusing
 use Rattle.sys_core.proofs.Stepping as stepping
 use Rattle.sys_core.proofs.sys.Sys.thread_step.Goals as goal
 
 pub returns-clause-whole : goal.returns-clause-whole
 returns-clause-whole g c =
-    stepping.whole_of g.D.VkDevice.state g.D.VkDevice.plan_of c.self.inside.world c.self.inside.history.items c.self.inside.parts c.self.inside.device c.self.invariant.keeps
-    c.thread_step-taken.new.history.items (g.D.VkDevice.state c.thread_step-taken.new.device) c.thread_step-taken.result c.self.invariant.whole
-    (stepping.whole_goes g.D.VkDevice.state g.D.VkDevice.plan_of c.self.inside.world c.self.inside.history.items c.self.inside.parts c.self.inside.device c.self.invariant.keeps
-    c.thread_step-taken.new.history.items (g.D.VkDevice.state c.thread_step-taken.new.device) (g.D.VkDevice.rest_of c.self.inside.device) (g.D.VkDevice.rest_of c.thread_step-taken.new.device) c.thread_step-taken.result
-    (stepping.thread_goes g.D.VkDevice.state g.D.VkDevice.plan_of c.self.inside.world c.self.inside.history.items c.self.inside.parts c.self.inside.device c.self.invariant.keeps
-    c.args.thread (subst (λ v. is_ready_thread v.world v.history c.args.thread.0 ≡ true) (sym c.self.view_is) c.requires) c.thread_step-taken.new.history.items (g.D.VkDevice.state c.thread_step-taken.new.device) c.thread_step-taken.result
-    c.thread_step-taken.ensures.event c.thread_step-taken.ensures.state (g.D.VkDevice.rest_of c.self.inside.device) (g.D.VkDevice.rest_of c.thread_step-taken.new.device) c.thread_step-taken.ensures.rest))
-    c.thread_step-taken.ensures.same c.thread_step-taken.ensures.same_state
+    stepping.whole_of g.D.VkDevice.state g.D.VkDevice.machine g.D.VkDevice.plan_of c.self.inside.world c.self.inside.history.items c.self.inside.parts c.self.inside.device c.self.invariant.keeps
+    c.thread_step-taken.new.history.items (g.D.VkDevice.state c.thread_step-taken.new.device) (g.D.VkDevice.machine c.thread_step-taken.new.device) c.thread_step-taken.result c.self.invariant.whole
+    (stepping.whole_goes g.D.VkDevice.state g.D.VkDevice.machine g.D.VkDevice.plan_of c.self.inside.world c.self.inside.history.items c.self.inside.parts c.self.inside.device c.self.invariant.keeps
+    c.thread_step-taken.new.history.items (g.D.VkDevice.state c.thread_step-taken.new.device) (g.D.VkDevice.machine c.thread_step-taken.new.device) (g.D.VkDevice.rest_of c.self.inside.device) (g.D.VkDevice.rest_of c.thread_step-taken.new.device) c.thread_step-taken.result
+    (stepping.thread_goes g.D.VkDevice.state g.D.VkDevice.machine g.D.VkDevice.plan_of c.self.inside.world c.self.inside.history.items c.self.inside.parts c.self.inside.device c.self.invariant.keeps
+    c.args.thread.0 c.thread_step-taken.new.history.items (g.D.VkDevice.state c.thread_step-taken.new.device) (g.D.VkDevice.machine c.thread_step-taken.new.device) c.thread_step-taken.result
+    c.thread_step-taken.ensures.step (g.D.VkDevice.rest_of c.self.inside.device) (g.D.VkDevice.rest_of c.thread_step-taken.new.device) c.thread_step-taken.ensures.rest))
+    c.thread_step-taken.ensures.same c.thread_step-taken.ensures.same_state c.thread_step-taken.ensures.same_machine
 
 pub invariant_of-self : goal.invariant_of-self
 invariant_of-self g c = record { keeps = c.settle-self-inside.ensures.keeps; queues = c.self.invariant.queues; whole = returns-clause-whole g c; counted = c.settle-self-inside.ensures.count; none_at_rest = c.settle-self-inside.ensures.none_at_rest }
 
 pub returns-clause-taken : goal.returns-clause-taken
 returns-clause-taken g c =
-    subst (λ v. OnOk c.thread_step-taken.result (WasTaken g.D.VkDevice.state g.D.VkDevice.rest_of (step.Thread c.args.thread.0) v (record { world = c.self.inside.world; history = c.thread_step-taken.new.history.items; device = c.thread_step-taken.new.device }))) c.self.view_is
-    (stepping.taken g.D.VkDevice.state g.D.VkDevice.plan_of c.self.inside.world c.self.inside.history.items c.self.inside.parts c.self.inside.device c.self.invariant.keeps
+    subst (λ v. OnOk c.thread_step-taken.result (WasTaken g.D.VkDevice.state g.D.VkDevice.machine g.D.VkDevice.rest_of (step.Thread c.args.thread.0) v (record { world = c.self.inside.world; history = c.thread_step-taken.new.history.items; device = c.thread_step-taken.new.device }))) c.self.view_is
+    (stepping.taken g.D.VkDevice.state g.D.VkDevice.machine g.D.VkDevice.plan_of c.self.inside.world c.self.inside.history.items c.self.inside.parts c.self.inside.device c.self.invariant.keeps
     g.D.VkDevice.rest_of (step.Thread c.args.thread.0) c.thread_step-taken.new.history.items c.thread_step-taken.new.device c.thread_step-taken.result
-    (stepping.is_thread_step g.D.VkDevice.state g.D.VkDevice.plan_of c.self.inside.world c.self.inside.history.items c.self.inside.parts c.self.inside.device c.self.invariant.keeps
-    c.args.thread.0 c.thread_step-taken.new.history.items c.thread_step-taken.new.device c.thread_step-taken.result c.thread_step-taken.ensures.event c.thread_step-taken.ensures.state c.thread_step-taken.ensures.keeps.consistent.run)
-    (stepping.none_used g.D.VkDevice.state g.D.VkDevice.plan_of c.self.inside.world c.self.inside.history.items c.self.inside.parts c.self.inside.device c.self.invariant.keeps
+    c.thread_step-taken.ensures.step
+    (stepping.none_used g.D.VkDevice.state g.D.VkDevice.machine g.D.VkDevice.plan_of c.self.inside.world c.self.inside.history.items c.self.inside.parts c.self.inside.device c.self.invariant.keeps
     (step.Thread c.args.thread.0) c.thread_step-taken.result (g.D.VkDevice.rest_of c.self.inside.device) (g.D.VkDevice.rest_of c.thread_step-taken.new.device) c.thread_step-taken.ensures.rest refl)
-    (stepping.thread_goes g.D.VkDevice.state g.D.VkDevice.plan_of c.self.inside.world c.self.inside.history.items c.self.inside.parts c.self.inside.device c.self.invariant.keeps
-    c.args.thread (subst (λ v. is_ready_thread v.world v.history c.args.thread.0 ≡ true) (sym c.self.view_is) c.requires) c.thread_step-taken.new.history.items (g.D.VkDevice.state c.thread_step-taken.new.device) c.thread_step-taken.result
-    c.thread_step-taken.ensures.event c.thread_step-taken.ensures.state (g.D.VkDevice.rest_of c.self.inside.device) (g.D.VkDevice.rest_of c.thread_step-taken.new.device) c.thread_step-taken.ensures.rest))
+    (stepping.thread_goes g.D.VkDevice.state g.D.VkDevice.machine g.D.VkDevice.plan_of c.self.inside.world c.self.inside.history.items c.self.inside.parts c.self.inside.device c.self.invariant.keeps
+    c.args.thread.0 c.thread_step-taken.new.history.items (g.D.VkDevice.state c.thread_step-taken.new.device) (g.D.VkDevice.machine c.thread_step-taken.new.device) c.thread_step-taken.result
+    c.thread_step-taken.ensures.step (g.D.VkDevice.rest_of c.self.inside.device) (g.D.VkDevice.rest_of c.thread_step-taken.new.device) c.thread_step-taken.ensures.rest))
 
 pub returns-clause-refusals : goal.returns-clause-refusals
 returns-clause-refusals g c =
-    refusing.refusals g.D.VkDevice.state g.D.VkDevice.rest_of c.args.thread.0 c.args.self.now
+    refusing.refusals g.D.VkDevice.state g.D.VkDevice.machine g.D.VkDevice.rest_of c.args.thread.0 c.args.self.now
     (record { world = c.self.inside.world; history = c.thread_step-taken.new.history.items; device = c.thread_step-taken.new.device }) c.thread_step-taken.result
-    (record { world = c.thread_step-taken.ensures.keeps.consistent.world; queues = c.self.invariant.queues; run = c.thread_step-taken.ensures.keeps.consistent.run; device = c.thread_step-taken.ensures.keeps.consistent.device })
+    (record { world = c.thread_step-taken.ensures.keeps.consistent.world; queues = c.self.invariant.queues; run = c.thread_step-taken.ensures.keeps.consistent.run; device = c.thread_step-taken.ensures.keeps.consistent.device; machine = c.thread_step-taken.ensures.keeps.machine_is })
     (returns-clause-taken g c)

@@ -1,5 +1,7 @@
 -- Each turn sums up one command.
-use Rattle.std.proofs.Common.{◌<◌, ◌∙◌, length, arith, sym}
+use Rattle.std.proofs.Common.{◌<◌, ◌∙◌, length, arith, sym, ap}
+use Rattle.vk_port.specs.Ahead.{summary}
+use Rattle.vk_port.proofs.LanePlaces.{left_from}
 use Rattle.vk_port.proofs.Summing.{summary_skip, summary_turn, summary_end}
 use Rattle.vk_port.proofs.ahead.Ahead.with_undone.Goals as goal
 
@@ -14,3 +16,6 @@ loop-i-preserved c =
 
 pub returns : goal.returns
 returns c = sym (c.loop-i.invariant ∙ summary_end c.loop-i.ahead c.args.running.now.batch.commands c.args.running.now.done c.loop-i.i (omega arith))
+
+pub loop-i-init : goal.loop-i-init
+loop-i-init c = ap (summary c.args.self) (left_from c.args.running.now.batch.commands c.args.running.now.done c.args.from c.requires)

@@ -3,8 +3,9 @@ use Rattle.std.proofs.Common.{◌≡◌, ◌+◌, ◌<◌, length, arith, refl, 
 use Rattle.vk_port.specs.Enabled.{enabled_steps}
 use Rattle.vk_port.specs.Stored.{state_of}
 use Rattle.vk_port.specs.VkState.{VkState}
-use Rattle.vk_port.proofs.Enabled.{enabled_means, takable, no_rest}
+use Rattle.vk_port.proofs.Enabled.{enabled_means, no_rest}
 use Rattle.vk_port.proofs.Finding.{found_at, found_left}
+use Rattle.vk_port.proofs.Tying.{tied_step}
 use Rattle.vk_port.proofs.plain.PlainDeviceVkDevice.step.Goals as goal
 
 pub unreachable-requires : goal.unreachable-requires
@@ -17,7 +18,16 @@ unreachable-requires g c =
 pub take-requires : goal.take-requires
 take-requires g c =
     let v = state_of c.args.self.now.store in
-    takable v c.in-At.step (enabled_means v c.args.k c.in-At.step (found_at (enabled_steps v) c.args.k c.in-At.step c.in-At.ensures))
+    enabled_means v c.args.k c.in-At.step (found_at (enabled_steps v) c.args.k c.in-At.step c.in-At.ensures)
+
+pub invariant_of-self-in-At : goal.invariant_of-self-in-At
+invariant_of-self-in-At g c =
+    let v = state_of c.args.self.now.store in
+    let enabled = enabled_means v c.args.k c.in-At.step (found_at (enabled_steps v) c.args.k c.in-At.step c.in-At.ensures) in
+    record {
+      tied = tied_step c.args.self.now.store c.args.self.now.kept c.args.self.now.tied c.take.new.self c.then-self.result c.in_ok-take-in-At.ensures.queues c.in-At.step c.then-self.ensures enabled
+          c.in_ok-take-in-At.ensures.ok c.in_ok-take-in-At.ensures.words;
+    }
 
 pub returns-clause-named : goal.returns-clause-named
 returns-clause-named g c =
