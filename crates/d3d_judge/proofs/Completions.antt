@@ -1,5 +1,5 @@
 -- What a judge's parts become at the completion of an operation.
-use Rattle.std.proofs.Common.{ℕ, zero, suc, slice_get, ◌≡◌, ◌<◌, ◌≤◌, ◌∙◌, nat_le, refl, ap, sym, subst, arith, List, [], ◌∷◌, ◌++◌, map, length, true, Option, Some, None, option_map}
+use Rattle.std.proofs.Common.{ℕ, zero, suc, slice_get, ◌≡◌, ◌<◌, ◌≤◌, ◌∙◌, nat_le, refl, ap, sym, subst, arith, List, [], ◌∷◌, ◌++◌, map, length, true, false, Option, Some, None, option_map}
 use Rattle.dx_base.specs.Each.{Each}
 use Rattle.dx_base.specs.Roomy.{Roomy}
 use Rattle.dx_base.specs.declared.ids.FenceId.{FenceId}
@@ -23,12 +23,12 @@ use Rattle.verdicts.specs.declared.rules.Rule.{Rule}
 use Rattle.d3d_judge.specs.declared.sub_tables.SubTables.{SubTables}
 use Rattle.d3d_judge.specs.declared.word_touches.WordTouches.{WordTouches}
 use Rattle.d3d_judge.specs.Carried.{Clocks, item_or, head_of, next_number, queue_clock, queue_joined, marked, completing, completed, carried, one_completion_more}
-use Rattle.d3d_judge.specs.CarriedClocks.{clocks_of, pending_in, pending_of, oldest_work, HasRoomFor, IsRoomFor, IsSized, AreSized}
+use Rattle.d3d_judge.specs.CarriedClocks.{clocks_of, pending_in, pending_of, oldest_work, HasRoomFor, IsRoomFor, is_execute, IsSized, AreSized}
 use Rattle.d3d_judge.specs.Commands.{command_of}
 use Rattle.d3d_judge.specs.CopyScopes.{touch_opened, IsDone, InScope, AreJudged, JudgesCopies, IsCopyReady, AreCopiesReady, IsShapedFor, AreIn, IsWorkIn}
 use Rattle.d3d_judge.specs.Happenings.{Completes, work_of}
 use Rattle.d3d_judge.specs.Judged.{Judged, Found, found_in, found_in_head, found_in_work, found_in_scope, judge_after}
-use Rattle.d3d_judge.specs.JudgeParts.{IsFound, AreOpen, TakesQueue, IsReadyFor, OldestIsReady, completion_of}
+use Rattle.d3d_judge.specs.JudgeParts.{IsFound, found_after, AreOpen, TakesQueue, IsReadyFor, OldestIsReady, completion_of}
 use Rattle.d3d_judge.specs.Scopes.{Opened, Scoped, first_scope, scope_all}
 use Rattle.d3d_judge.specs.Setting.{traits_of, setting_of}
 use Rattle.d3d_judge.specs.WordTouches.{AreAllTied}
@@ -110,6 +110,18 @@ module _ (w : World) (h : List Event) (x : JudgeParts) (q : ℕ) (k : TakesQueue
 
   head_is_oldest : head_of (judge_after w h).clocks q ≡ option_map pending_of (oldest_work x.clocks.pending q)
   head_is_oldest = ap (λ (c : Clocks). head_of c q) (sym k.opened.stands.clocks) ∙ oldest_is x.clocks.pending q
+
+  -- where the oldest is no execute, nothing is found
+  pub quiet_completes : is_execute (option_map (λ (p : GivenWork). p.operation) (oldest_work x.clocks.pending q)) ≡ false → (found_after w h (completion_of q)).broken ≡ None
+  quiet_completes e = ap (λ o. (found_in_head (setting_of w) (judge_after w h) q o).broken) head_is_oldest ∙ by_work (oldest_work x.clocks.pending q) e
+    where
+      by_operation : (p : GivenWork) (o : Operation) → is_execute (Some o) ≡ false → (found_in_work (setting_of w) (judge_after w h) q (pending_of p) (work_of o)).broken ≡ None
+      by_operation p (operation.Execute cs) e = cc
+      by_operation p (operation.Signal f v) e = refl
+
+      by_work : (y : Option GivenWork) → is_execute (option_map (λ (p : GivenWork). p.operation) y) ≡ false → (found_in_head (setting_of w) (judge_after w h) q (option_map pending_of y)).broken ≡ None
+      by_work None e = refl
+      by_work (Some p) e = by_operation p p.operation e
 
   -- where no operation is there, and where the oldest is a signal
   pub none_completes : (new : JudgeParts) → None ≡ option_map (λ (p : GivenWork). p.operation) (oldest_work x.clocks.pending q) → clocks_of new.clocks ≡ carried (clocks_of x.clocks) (Completes q) →

@@ -13,7 +13,7 @@ use Rattle.d3d_judge.specs.CarriedClocks.{IsSized}
 use Rattle.d3d_judge.specs.Commands.{command_of}
 use Rattle.d3d_judge.specs.Setting.{traits_of}
 use Rattle.d3d_judge.specs.CopyScopes.{words_from, words_to, range_by, IsIn, AreIn, IsCopyReady, AreCopiesReady, CanAsk, CanAdd, IsShapedFor}
-use Rattle.d3d_judge.specs.WordTouches.{HasSub, HaveActors, HaveQueue, HaveThread, HasTablesOfQueue, KeepQueueTables, IsWideAt, words_at, after_scope_at}
+use Rattle.d3d_judge.specs.WordTouches.{HasSub, HaveActors, HaveQueue, HaveThread, HasTablesOfQueue, KeepTables, IsWideAt, words_at, after_scope_at}
 use Rattle.d3d_judge.proofs.TableShapes.{scope_keeps, shaped_sub, shaped_actors, shaped_queue, shaped_thread, shaped_wide}
 use Rattle.d3d_judge.proofs.WordTouches.{scope_tables_kept}
 
@@ -69,8 +69,8 @@ module _ (w : World) (all : List (List SubTables)) (c d : Clock) (q : ℕ) (what
   }
 
 -- tables that keep those that are there stay ready
-pub ready_stays : (w : World) (all new : List (List SubTables)) (q : ℕ) (what : Record) → KeepQueueTables all new → IsCopyReady w all q what → IsCopyReady w new q what
-ready_stays w all new q what k h = record { from = h.from; to = h.to; from_tables = k q (words_from what) h.from_tables; to_tables = k q (words_to what) h.to_tables }
+pub ready_stays : (w : World) (all new : List (List SubTables)) (q : ℕ) (what : Record) → KeepTables all new → IsCopyReady w all q what → IsCopyReady w new q what
+ready_stays w all new q what k h = record { from = h.from; to = h.to; from_tables = k.queues q (words_from what) h.from_tables; to_tables = k.queues q (words_to what) h.to_tables }
 
 -- what an operation touches keeps the tables ready
 pub ready_touched : (w : World) (all : List (List SubTables)) (c d : Clock) (q p n : ℕ) (a : WordAccess) (whats : List Record) → AreCopiesReady w all c d q whats → AreCopiesReady w (after_scope_at p n a all) c d q whats
@@ -144,7 +144,7 @@ one_ready w all c d q cs i e l h = record {
 }
 
 -- and the first copies, with one more
-pub more_ready : (w : World) (all new : List (List SubTables)) (q : ℕ) (cs : List Command) (i : ℕ) (e : Command) → i < length cs → KeepQueueTables all new →
+pub more_ready : (w : World) (all new : List (List SubTables)) (q : ℕ) (cs : List Command) (i : ℕ) (e : Command) → i < length cs → KeepTables all new →
     IsCopyReady w new q (get_or cs i e).what → Each (λ c. IsCopyReady w all q c.what) (take i cs) → Each (λ c. IsCopyReady w new q c.what) (take (i + 1) cs)
 more_ready w all new q cs i e l k one h =
     subst (λ xs. Each (λ c. IsCopyReady w new q c.what) xs) (sym (take_more cs i e l))

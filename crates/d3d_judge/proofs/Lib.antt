@@ -31,3 +31,6 @@ pub mod Calls
 pub mod HostAccesses
 pub mod Completions
 pub mod Next
+pub mod HostCalls
+pub mod Prepared
+pub mod JudgeStates

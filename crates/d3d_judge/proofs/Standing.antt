@@ -1,7 +1,6 @@
 -- The parts of a judge behind one event more.
-use Rattle.std.proofs.Common.{ℕ, suc, ◌≡◌, ◌<◌, ◌+◌, ◌^◌, ◌∙◌, refl, ap, sym, subst, arith, List, [], ◌∷◌, ◌++◌, map, length, Bool, true, false, Option, Some, None, add-one}
+use Rattle.std.proofs.Common.{ℕ, suc, ◌≡◌, ◌+◌, ◌∙◌, refl, ap, sym, subst, List, [], ◌∷◌, ◌++◌, map, length, Bool, true, false, Option, Some, None, add-one}
 use Rattle.std.proofs.lemmas.List.{length-append}
-use Rattle.std.specs.List.{list_all}
 use Rattle.dx_base.specs.Each.{Each}
 use Rattle.d3d_machine.specs.declared.calls.Call.{Call}
 use Rattle.d3d_machine.specs.declared.events.Event.{Event}
@@ -11,7 +10,6 @@ use Rattle.d3d_machine.specs.Play.{state_after}
 use Rattle.d3d_machine.specs.Replies.{refusal}
 use Rattle.d3d_machine.specs.State.{State, declared_list}
 use Rattle.d3d_machine.specs.Steps.{served}
-use Rattle.d3d_machine.specs.World.{are_named, is_small_resource}
 use Rattle.d3d_machine.proofs.Runs.{state_after_append}
 use Rattle.d3d_judge.specs.declared.judge_parts.JudgeParts.{JudgeParts}
 use Rattle.verdicts.specs.declared.rules.Rule.{Rule}
@@ -21,8 +19,7 @@ use Rattle.d3d_judge.specs.CarriedClocks.{clocks_of, AreSized, IsOfSize}
 use Rattle.d3d_judge.specs.CopyScopes.{IsDone, IsShapedFor}
 use Rattle.d3d_judge.specs.Happenings.{Happening, Calls, Deed, Gives, SetsFence, WaitsFor, Asks, Stores, Loads, Nothing, unless_refused, deed_of, happening_of}
 use Rattle.d3d_judge.specs.Judged.{Judged, Found, found_nothing, found_in, found_in_call, judged_next, judge, judge_after}
-use Rattle.d3d_judge.specs.Fed.{Fed, fed_more}
-use Rattle.d3d_judge.specs.JudgeParts.{IsFed, IsSteady, Stands, found_after, IsFound, verdict_of, call_of_thread, AreOpen, TakesCall, CallFound}
+use Rattle.d3d_judge.specs.JudgeParts.{IsSteady, Stands, found_after, IsFound, verdict_of, call_of_thread, TakesCall, CallFound}
 use Rattle.d3d_judge.specs.Setting.{traits_of, setting_of}
 use Rattle.d3d_judge.specs.WordTouches.{AreAllTied, AreShaped, untouched}
 use Rattle.d3d_judge.proofs.Judging.{step_is, after_more}
@@ -40,12 +37,12 @@ next_verdict None f s j clean = clean
 next_verdict (Some r) f s j clean = refl
 
 -- and what is said of it
-pub verdict_is : (w : World) (h : List Event) (e : Event) (x : JudgeParts) (r : Option Rule) (n : ℕ) → judge w h ≡ Clean → Stands w h x → r ≡ (found_after w h e).broken → n ≡ length h + 1 →
+pub verdict_is : (w : World) (h : List Event) (e : Event) (r : Option Rule) (n : ℕ) → judge w h ≡ Clean → (judge_after w h).events ≡ length h → r ≡ (found_after w h e).broken → n ≡ length h + 1 →
     verdict_of n r ≡ judge w (h ++ e ∷ [])
-verdict_is w h e x r n clean s is hn =
+verdict_is w h e r n clean counted is hn =
     sym (ap (λ (u : Judged). u.verdict) (judged_more w h e clean)
     ∙ (next_verdict (found_after w h e).broken (found_after w h e) (carried (judge_after w h).clocks (happening_of w (state_after w h).desk e)) (judge_after w h) clean
-    ∙ (ap (λ k. verdict_of (suc k) (found_after w h e).broken) s.events
+    ∙ (ap (λ k. verdict_of (suc k) (found_after w h e).broken) counted
     ∙ (ap (λ k. verdict_of k (found_after w h e).broken) (sym (hn ∙ add-one (length h))) ∙ ap (verdict_of n) (sym is)))))
 
 -- the parts stand behind an event that breaks nothing
@@ -93,7 +90,7 @@ is_quiet (Stores r) = false
 is_quiet (Loads r) = false
 is_quiet Nothing = true
 
-quiet_nothing : (j : Judged) (t : ℕ) (d : Deed) → is_quiet d ≡ true → found_in_call j t d ≡ found_nothing j
+pub quiet_nothing : (j : Judged) (t : ℕ) (d : Deed) → is_quiet d ≡ true → found_in_call j t d ≡ found_nothing j
 quiet_nothing j t (Gives q o) e = refl
 quiet_nothing j t (SetsFence f v) e = refl
 quiet_nothing j t (WaitsFor f v) e = refl
@@ -127,37 +124,6 @@ stands_first w x queues threads hq ht lists clocks touches = record {
   steady = steady_first w;
 }
 
--- the parts of a judge may be told an event
-pub parts_open : (f : Fed) (x : JudgeParts) (n : ℕ) (w : World) → IsFed f x n → f.world ≡ w → judge w f.history ≡ Clean → n + 1 < 2 ^ 64 → AreOpen w f.history x
-parts_open f x n w k e clean few = record {
-  named = subst (λ v. are_named v ≡ true) e k.named;
-  sizes = subst (λ v. list_all is_small_resource v.resources ≡ true) e k.sizes;
-  clean = clean;
-  stands = subst (λ v. Stands v f.history x) e (k.stands (subst (λ v. judge v f.history ≡ Clean) (sym e) clean));
-  few = let c = k.counted in omega (arith, c, few);
-}
-
-only_clean : (n : ℕ) (r : Option Rule) → verdict_of n r ≡ Clean → r ≡ None
+pub only_clean : (n : ℕ) (r : Option Rule) → verdict_of n r ≡ Clean → r ≡ None
 only_clean n None e = refl
 only_clean n (Some r) e = cc
-
--- a judge was fed one event more
-pub fed_one_more : (f : Fed) (x new : JudgeParts) (n m : ℕ) (w : World) (e : Event) (r : Option Rule) → IsFed f x n → f.world ≡ w → judge w f.history ≡ Clean → IsFound w f.history e new r → m ≡ n + 1 → IsFed (fed_more f e) new m
-fed_one_more f x new n m w e r k is clean found hm = record {
-  named = k.named;
-  sizes = k.sizes;
-  counted = hm ∙ (ap (λ y. y + 1) k.counted ∙ sym (length-append f.history (e ∷ [])));
-  stands = λ after.
-      let old : Stands w f.history x = subst (λ v. Stands v f.history x) is (k.stands (subst (λ v. judge v f.history ≡ Clean) (sym is) clean)) in
-      let none : r ≡ None = only_clean (length f.history + 1) r (verdict_is w f.history e x r (length f.history + 1) clean old found.rule refl ∙ subst (λ v. judge v (f.history ++ e ∷ []) ≡ Clean) is after) in
-      subst (λ v. Stands v (f.history ++ e ∷ []) new) (sym is) (found.goes_on none);
-}
-
--- a judge that was not fed has other parts that stand
-pub fed_still : (f : Fed) (x new : JudgeParts) (n : ℕ) (w : World) → IsFed f x n → f.world ≡ w → Stands w f.history new → IsFed f new n
-fed_still f x new n w k is stands = record { named = k.named; sizes = k.sizes; counted = k.counted; stands = λ _. subst (λ v. Stands v f.history new) (sym is) stands }
-
--- what is said of the event
-pub verdict_told : (f : Fed) (x new : JudgeParts) (n m : ℕ) (w : World) (e : Event) (r : Option Rule) → IsFed f x n → f.world ≡ w → judge w f.history ≡ Clean → IsFound w f.history e new r → m ≡ n + 1 → verdict_of m r ≡ judge w (f.history ++ e ∷ [])
-verdict_told f x new n m w e r k is clean found hm =
-    verdict_is w f.history e x r m clean (subst (λ v. Stands v f.history x) is (k.stands (subst (λ v. judge v f.history ≡ Clean) (sym is) clean))) found.rule (hm ∙ ap (λ y. y + 1) k.counted)

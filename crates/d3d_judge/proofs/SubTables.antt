@@ -13,7 +13,7 @@ use Rattle.d3d_judge.specs.Carried.{item_or}
 use Rattle.d3d_judge.specs.Tables.{any_below, conflicts_in, is_of_queue, is_of_thread, OfQueues, OfThreads, number_of}
 use Rattle.d3d_judge.specs.Touches.{Reads, Writes, Touch, conflict, breaks_one, breaks_ten}
 use Rattle.d3d_judge.specs.ActorTables.{actor_above, AreTied, AreMade, raised_table, made_table}
-use Rattle.d3d_judge.specs.SubTables.{doing_if, scopes_against, calls_against, IsTied, no_touches, IsWide, raised_if, after_scope, after_call, HasScopeTables, HasCallTables, KeepTies, IsWideIfThere, KeepShape, KeepScopeTables}
+use Rattle.d3d_judge.specs.SubTables.{doing_if, scopes_against, calls_against, IsTied, no_touches, IsWide, raised_if, after_scope, after_call, HasScopeTables, HasCallTables, KeepTies, IsWideIfThere, KeepShape, KeepSubTables}
 use Rattle.word_trees.proofs.Numbers.{length_raised}
 use Rattle.d3d_judge.specs.declared.sub_tables.SubTables.{SubTables}
 use Rattle.d3d_judge.proofs.ActorTables.{queues_tell, threads_tell, tied_first, tied_made, tied_raised, tied_missed, item_here}
@@ -248,15 +248,24 @@ tables_stay words a end q old new (Ok x) m e h =
 tables_stay words a end q old new (Err x) m e h = subst (λ y. IsWide end (item_or None y q)) (sym e) h
 
 pub queue_tables_stay : {A E : Type 0} (x : SubTables) (words a : ℕ) (w t : List (Option (List ℕ))) (r : Result A E) → AreMade words x.queue_writes a w →
-    OnOk r (AreMade words x.queue_touches a t) → OnErr r (t ≡ x.queue_touches) → KeepScopeTables x (record x { queue_writes = w; queue_touches = t })
-queue_tables_stay x words a w t res mw mt et q end h = record {
-  writes = tables_stay {A = Unit {0}} {E = Unit {0}} words a end q x.queue_writes w (Ok tt) mw tt h.writes;
-  touches = tables_stay words a end q x.queue_touches t res mt et h.touches;
+    OnOk r (AreMade words x.queue_touches a t) → OnErr r (t ≡ x.queue_touches) → KeepSubTables x (record x { queue_writes = w; queue_touches = t })
+queue_tables_stay x words a w t res mw mt et = record {
+  scopes = λ q end h. record {
+    writes = tables_stay {A = Unit {0}} {E = Unit {0}} words a end q x.queue_writes w (Ok tt) mw tt h.writes;
+    touches = tables_stay words a end q x.queue_touches t res mt et h.touches;
+  };
+  calls = λ u end h. record { writes = h.writes; touches = h.touches };
 }
 
--- the tables of threads are no tables of queues
-pub thread_tables_stay : (x : SubTables) (w t : List (Option (List ℕ))) → KeepScopeTables x (record x { thread_writes = w; thread_touches = t })
-thread_tables_stay x w t q end h = record { writes = h.writes; touches = h.touches }
+pub thread_tables_stay : {A E : Type 0} (x : SubTables) (words a : ℕ) (w t : List (Option (List ℕ))) (r : Result A E) → AreMade words x.thread_writes a w →
+    OnOk r (AreMade words x.thread_touches a t) → OnErr r (t ≡ x.thread_touches) → KeepSubTables x (record x { thread_writes = w; thread_touches = t })
+thread_tables_stay x words a w t res mw mt et = record {
+  scopes = λ q end h. record { writes = h.writes; touches = h.touches };
+  calls = λ u end h. record {
+    writes = tables_stay {A = Unit {0}} {E = Unit {0}} words a end u x.thread_writes w (Ok tt) mw tt h.writes;
+    touches = tables_stay words a end u x.thread_touches t res mt et h.touches;
+  };
+}
 
 raised_stays : (end first last n : ℕ) (o : Option (List ℕ)) → IsWide end o → IsWide end (raised_table first last n o)
 raised_stays end first last n None h = absurd h
@@ -267,8 +276,11 @@ raised_if_stays true end first last n a q tables h = wide_changed end (raised_ta
 raised_if_stays false end first last n a q tables h = h
 
 -- what an operation touches takes no table away
-pub scope_tables_stay : (p n first last : ℕ) (writes : Bool) (x : SubTables) → KeepScopeTables x (after_scope p writes first last n x)
-scope_tables_stay p n first last writes x q end h = record {
-  writes = raised_if_stays writes end first last n p q x.queue_writes h.writes;
-  touches = wide_changed end (raised_table first last n) (raised_stays end first last n) p q x.queue_touches h.touches;
+pub scope_tables_stay : (p n first last : ℕ) (writes : Bool) (x : SubTables) → KeepSubTables x (after_scope p writes first last n x)
+scope_tables_stay p n first last writes x = record {
+  scopes = λ q end h. record {
+    writes = raised_if_stays writes end first last n p q x.queue_writes h.writes;
+    touches = wide_changed end (raised_table first last n) (raised_stays end first last n) p q x.queue_touches h.touches;
+  };
+  calls = λ t end h. record { writes = h.writes; touches = h.touches };
 }

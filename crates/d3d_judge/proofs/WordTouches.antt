@@ -13,8 +13,8 @@ use Rattle.d3d_judge.specs.Setting.{Traits}
 use Rattle.d3d_judge.specs.Tables.{any_below}
 use Rattle.d3d_judge.specs.Touches.{Touch, meets, is_operation, breaks_one, breaks_ten, breaks_ten_host}
 use Rattle.d3d_judge.specs.ActorTables.{actor_above, AreMade}
-use Rattle.d3d_judge.specs.SubTables.{scopes_against, calls_against, no_touches, IsTied, after_scope, after_call, IsShaped, KeepShape, HasScopeTables}
-use Rattle.d3d_judge.specs.WordTouches.{touch_by, AreAllTied, HasSub, HasQueue, HasThread, TellsOne, TellsTen, HaveOneMore, HasTablesOfQueue, HasTablesOfThread, TellsHost, untouched, SubKept, KeepAllTies, SubsShaped, AreShaped, words_at, KeepShapes, KeepQueueTables, IsWideAt, AreQueuesMade, AreThreadsMade, after_scope_at}
+use Rattle.d3d_judge.specs.SubTables.{scopes_against, calls_against, no_touches, IsTied, after_scope, after_call, IsShaped, KeepShape, HasScopeTables, HasCallTables}
+use Rattle.d3d_judge.specs.WordTouches.{touch_by, AreAllTied, HasSub, HasQueue, HasThread, TellsOne, TellsTen, HaveOneMore, HasTablesOfQueue, HasTablesOfThread, TellsHost, untouched, SubKept, KeepAllTies, SubsShaped, AreShaped, words_at, KeepShapes, KeepTables, IsWideAt, AreQueuesMade, AreThreadsMade, after_scope_at}
 use Rattle.d3d_judge.specs.declared.sub_tables.SubTables.{SubTables}
 use Rattle.d3d_judge.specs.declared.word_touches.WordAccess.{WordAccess}
 use Rattle.d3d_judge.proofs.CarriedClocks.{got, some_is, item_got}
@@ -153,13 +153,26 @@ all_become P words r s all new xs ys er k en go h u v zs z eu ev =
 pub all_kept : (words r s : ℕ) (all new : List (List SubTables)) (xs ys : List SubTables) → slice_get all r ≡ Some xs → SubKept words s xs ys → new ≡ changed_at (λ _. ys) r all → KeepAllTies all new
 all_kept words r s all new xs ys er k en made h = all_become (λ u v z. IsTied u v made z) words r s all new xs ys er k en (k.ties r s made) h
 
--- and by one that has the tables of queues that were there
-pub all_keep_tables : (words r s : ℕ) (all new : List (List SubTables)) (xs ys : List SubTables) → slice_get all r ≡ Some xs → SubKept words s xs ys → new ≡ changed_at (λ _. ys) r all → KeepQueueTables all new
-all_keep_tables words r s all new xs ys er k en q a h zs z eu ev =
-    all_become (λ u v y. u ≡ a.resource → v ≡ a.sub → HasScopeTables q (a.first + a.words) y) words r s all new xs ys er k en
-    (λ f d e. k.tables q (a.first + a.words) (f d e))
-    (λ u v us y fu fv d e. h us y (ap (λ j. slice_get all j) (sym d) ∙ fu) (ap (λ j. slice_get us j) (sym e) ∙ fv))
-    a.resource a.sub zs z eu ev refl refl
+-- and by one that has the tables that were there
+pub all_keep_tables : (words r s : ℕ) (all new : List (List SubTables)) (xs ys : List SubTables) → slice_get all r ≡ Some xs → SubKept words s xs ys → new ≡ changed_at (λ _. ys) r all → KeepTables all new
+all_keep_tables words r s all new xs ys er k en = record {
+  queues = λ q a h. kept a (HasScopeTables q (a.first + a.words)) (k.tables.scopes q (a.first + a.words)) h;
+  threads = λ t a h. kept a (HasCallTables t (a.first + a.words)) (k.tables.calls t (a.first + a.words)) h;
+}
+  where
+    kept : (a : WordAccess) (P : SubTables → Type 0) → (P k.before → P k.after) → ((zs : List SubTables) (z : SubTables) → slice_get all a.resource ≡ Some zs → slice_get zs a.sub ≡ Some z → P z) →
+        (zs : List SubTables) (z : SubTables) → slice_get new a.resource ≡ Some zs → slice_get zs a.sub ≡ Some z → P z
+    kept a P step h zs z eu ev =
+        all_become (λ u v y. u ≡ a.resource → v ≡ a.sub → P y) words r s all new xs ys er k en
+        (λ f d e. step (f d e))
+        (λ u v us y fu fv d e. h us y (ap (λ j. slice_get all j) (sym d) ∙ fu) (ap (λ j. slice_get us j) (sym e) ∙ fv))
+        a.resource a.sub zs z eu ev refl refl
+
+pub tables_twice : (xs ys zs : List (List SubTables)) → KeepTables xs ys → KeepTables ys zs → KeepTables xs zs
+tables_twice xs ys zs h k = record { queues = λ q a t. k.queues q a (h.queues q a t); threads = λ u a t. k.threads u a (h.threads u a t) }
+
+pub tables_same : (xs : List (List SubTables)) → KeepTables xs xs
+tables_same xs = record { queues = λ q a t. t; threads = λ u a t. t }
 
 subs_shaped : (queues threads : ℕ) (ns : List ℕ) (xs : List SubTables) (s : ℕ) (x y : SubTables) → slice_get xs s ≡ Some x → KeepShape (item_or 0 ns s) x y →
     SubsShaped queues threads ns xs → SubsShaped queues threads ns (changed_at (λ _. y) s xs)
@@ -247,11 +260,18 @@ item_before {A} f k xs i y P keeps h e =
         let m : Some (f x) ≡ Some y = sym (get_changed f xs i ∙ ap (option_map f) d) ∙ e2 in
         subst P (some_is (f x) y m) (keeps x (h x d))
 
--- what an operation touches takes no table of a queue away
-pub scope_tables_kept : (p n : ℕ) (b : WordAccess) (all : List (List SubTables)) → KeepQueueTables all (after_scope_at p n b all)
-scope_tables_kept p n b all q a h zs z eu ev =
-    item_before (changed_at (after_scope p b.writes b.first (b.first + b.words) n) b.sub) b.resource all a.resource zs
-    (λ us. (y : SubTables) → slice_get us a.sub ≡ Some y → HasScopeTables q (a.first + a.words) y)
-    (λ us g y ey. item_before (after_scope p b.writes b.first (b.first + b.words) n) b.sub us a.sub y (HasScopeTables q (a.first + a.words))
-    (λ x k. scope_tables_stay p n b.first (b.first + b.words) b.writes x q (a.first + a.words) k) g ey)
-    (λ us eus y ey. h us y eus ey) eu z ev
+-- what an operation touches takes no table away
+pub scope_tables_kept : (p n : ℕ) (b : WordAccess) (all : List (List SubTables)) → KeepTables all (after_scope_at p n b all)
+scope_tables_kept p n b all = record {
+  queues = λ q a h. kept a (HasScopeTables q (a.first + a.words)) (λ x. (scope_tables_stay p n b.first (b.first + b.words) b.writes x).scopes q (a.first + a.words)) h;
+  threads = λ t a h. kept a (HasCallTables t (a.first + a.words)) (λ x. (scope_tables_stay p n b.first (b.first + b.words) b.writes x).calls t (a.first + a.words)) h;
+}
+  where
+    kept : (a : WordAccess) (P : SubTables → Type 0) → ((x : SubTables) → P x → P (after_scope p b.writes b.first (b.first + b.words) n x)) →
+        ((zs : List SubTables) (z : SubTables) → slice_get all a.resource ≡ Some zs → slice_get zs a.sub ≡ Some z → P z) →
+        (zs : List SubTables) (z : SubTables) → slice_get (after_scope_at p n b all) a.resource ≡ Some zs → slice_get zs a.sub ≡ Some z → P z
+    kept a P step h zs z eu ev =
+        item_before (changed_at (after_scope p b.writes b.first (b.first + b.words) n) b.sub) b.resource all a.resource zs
+        (λ us. (y : SubTables) → slice_get us a.sub ≡ Some y → P y)
+        (λ us g y ey. item_before (after_scope p b.writes b.first (b.first + b.words) n) b.sub us a.sub y P (λ x k. step x k) g ey)
+        (λ us eus y ey. h us y eus ey) eu z ev

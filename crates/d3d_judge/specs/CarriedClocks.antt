@@ -1,5 +1,5 @@
 -- What the code's clocks are, and how many numbers each has.
-use Rattle.std.specs.Prelude.{ℕ, zero, suc, ◌≡◌, ◌≤◌, List, [], ◌∷◌, length, map, slice_get, ◌<◌, Option, Some, None}
+use Rattle.std.specs.Prelude.{ℕ, zero, suc, ◌≡◌, ◌≤◌, List, [], ◌∷◌, length, map, slice_get, ◌<◌, Bool, true, false, Option, Some, None}
 use Rattle.dx_base.specs.Each.{Each}
 use Rattle.dx_base.specs.Roomy.{Roomy}
 use Rattle.clocks.specs.declared.clock.Clock.{Clock}
@@ -86,6 +86,11 @@ oldest_in (Some r) = slice_get r.items 0
 
 abbrev pub oldest_work : List (Roomy GivenWork) → ℕ → Option GivenWork
 oldest_work ps q = oldest_in (slice_get ps q)
+
+abbrev pub is_execute : Option Operation → Bool
+is_execute None = false
+is_execute (Some (operation.Execute cs)) = true
+is_execute (Some (operation.Signal f v)) = false
 
 -- there is room for the update that an operation gives a fence, where there is that fence
 abbrev pub IsRoomFor : List (Roomy FenceUpdate) → Operation → Type 0

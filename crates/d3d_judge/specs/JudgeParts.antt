@@ -22,7 +22,6 @@ use Rattle.verdicts.specs.declared.rules.Verdict.TheVariants.{Clean, Broken}
 use Rattle.d3d_judge.specs.Carried.{queue_clock}
 use Rattle.d3d_judge.specs.CarriedClocks.{clocks_of, AreSized, HasRoom, oldest_work}
 use Rattle.d3d_judge.specs.CopyScopes.{range_by, IsDone, IsShapedFor, IsCopyReady}
-use Rattle.d3d_judge.specs.Fed.{Fed}
 use Rattle.d3d_judge.specs.Happenings.{Calls, Deed, Stores, Loads, happening_of}
 use Rattle.d3d_judge.specs.Judged.{Judged, Found, found_in, judge, judge_after}
 use Rattle.d3d_judge.specs.Setting.{setting_of}
@@ -117,10 +116,3 @@ deed_by a = cond a.writes (Stores (range_by a)) (Loads (range_by a))
 abbrev pub DeedFound : World → List Event → ℕ → Deed → JudgeParts → Option Rule → Type 0
 DeedFound w h t d new r =
     (e : Event) → happening_of w (state_after w h).desk e ≡ Calls t d → (desk_after w (state_after w h).desk e).lists ≡ (state_after w h).desk.lists → IsFound w h e new r
-
--- a judge was fed events of such a world, and its parts stand behind them while no rule is broken
-pub record IsFed (f : Fed) (x : JudgeParts) (events : ℕ) : Type 0 where
-  pub named : are_named f.world ≡ true
-  pub sizes : list_all is_small_resource f.world.resources ≡ true
-  pub counted : events ≡ length f.history
-  pub stands : judge f.world f.history ≡ Clean → Stands f.world f.history x

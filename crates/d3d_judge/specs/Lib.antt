@@ -20,3 +20,7 @@ pub mod CoverPlaces
 pub mod Fed
 pub mod CopyScopes
 pub mod JudgeParts
+pub mod Actors
+pub mod HostCalls
+pub mod Prepared
+pub mod JudgeStates

@@ -71,8 +71,9 @@ pub record HasCallTables (t end : ℕ) (x : SubTables) : Type 0 where
   pub touches : IsWide end (item_or None x.thread_touches t)
 
 -- tables that are there stay, and are as wide
-abbrev pub KeepScopeTables : SubTables → SubTables → Type 0
-KeepScopeTables x y = (q end : ℕ) → HasScopeTables q end x → HasScopeTables q end y
+pub record KeepSubTables (x y : SubTables) : Type 0 where
+  pub scopes : (q end : ℕ) → HasScopeTables q end x → HasScopeTables q end y
+  pub calls : (t end : ℕ) → HasCallTables t end x → HasCallTables t end y
 
 -- as many tables of queues, and of threads
 pub record HasActors (queues threads : ℕ) (x : SubTables) : Type 0 where

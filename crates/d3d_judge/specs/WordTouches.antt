@@ -9,7 +9,7 @@ use Rattle.d3d_judge.specs.Setting.{Traits, no_traits}
 use Rattle.d3d_judge.specs.Tables.{OfQueues, OfThreads}
 use Rattle.d3d_judge.specs.Touches.{Touch, breaks_one, breaks_ten, breaks_ten_host}
 use Rattle.d3d_judge.specs.ActorTables.{AreMade}
-use Rattle.d3d_judge.specs.SubTables.{doing_if, no_touches, after_scope, after_call, IsTied, HasActors, HasScopeTables, HasCallTables, KeepTies, KeepShape, KeepScopeTables, IsShaped, IsWideSub}
+use Rattle.d3d_judge.specs.SubTables.{doing_if, no_touches, after_scope, after_call, IsTied, HasActors, HasScopeTables, HasCallTables, KeepTies, KeepShape, KeepSubTables, IsShaped, IsWideSub}
 use Rattle.d3d_judge.specs.declared.sub_tables.SubTables.{SubTables}
 use Rattle.d3d_judge.specs.declared.word_touches.WordAccess.{WordAccess}
 
@@ -70,9 +70,10 @@ HasTablesOfQueue all q a = (xs : List SubTables) (x : SubTables) → slice_get a
 abbrev pub HasTablesOfThread : List (List SubTables) → ℕ → WordAccess → Type 0
 HasTablesOfThread all t a = (xs : List SubTables) (x : SubTables) → slice_get all a.resource ≡ Some xs → slice_get xs a.sub ≡ Some x → HasCallTables t (a.first + a.words) x
 
--- tables of queues that are there stay, and are as wide
-abbrev pub KeepQueueTables : List (List SubTables) → List (List SubTables) → Type 0
-KeepQueueTables old new = (q : ℕ) (a : WordAccess) → HasTablesOfQueue old q a → HasTablesOfQueue new q a
+-- tables that are there stay, and are as wide
+pub record KeepTables (old new : List (List SubTables)) : Type 0 where
+  pub queues : (q : ℕ) (a : WordAccess) → HasTablesOfQueue old q a → HasTablesOfQueue new q a
+  pub threads : (t : ℕ) (a : WordAccess) → HasTablesOfThread old t a → HasTablesOfThread new t a
 
 -- a test is that of B10 for the host, of whatever was touched
 abbrev pub TellsHost : List (List SubTables) → Clock → WordAccess → Bool → Type 0
@@ -99,7 +100,7 @@ pub record SubKept (words s : ℕ) (old new : List SubTables) : Type 0 where
   pub set : new ≡ changed_at (λ _. after) s old
   pub ties : KeepTies before after
   pub shape : KeepShape words before after
-  pub tables : KeepScopeTables before after
+  pub tables : KeepSubTables before after
 
 -- the tables of the subresources of a resource, by the words of each
 abbrev pub SubsShaped : ℕ → ℕ → List ℕ → List SubTables → Type 0

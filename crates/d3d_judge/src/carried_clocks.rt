@@ -7,7 +7,7 @@ ghost use Rattle.dx_base.specs.Lists.{changed_at};
 ghost use Rattle.clocks.specs.Clocks.{number, joined, with_call, with_op, empty_clock, zero_clock};
 ghost use Rattle.d3d_judge.specs.Happenings.{Calls, Wakes, Completes, Gives, SetsFence, WaitsFor, Asks, work_of};
 ghost use Rattle.d3d_judge.specs.Carried.{item_or, head, latest, sufficient, called_by, carried, updated, no_wait, first_clocks};
-ghost use Rattle.d3d_judge.specs.CarriedClocks.{clocks_of, update_of, updates_in, pending_in, pending_of, armed_of, AreSized, AreAlike, IsSized, HasRoom, HasRoomFor, IsRoomFor, SameSize, clock_at, oldest_work, worked};
+ghost use Rattle.d3d_judge.specs.CarriedClocks.{clocks_of, update_of, updates_in, pending_in, pending_of, armed_of, AreSized, AreAlike, IsSized, HasRoom, HasRoomFor, IsRoomFor, SameSize, clock_at, oldest_work, is_execute, worked};
 
 use clocks::Clock;
 use d3d_machine::{Operation, World};
@@ -181,6 +181,18 @@ impl CarriedClocks {
         match self.pending.at(queue as usize).front() {
             None => None,
             Some(work) => Some(&work.operation),
+        }
+    }
+
+    /// Whether the oldest operation of a queue is an execute.
+    pub fn completes_execute(&self, queue: u32) -> bool
+        requires { queue < length self.now.pending }
+        ensures { result ≡ is_execute (option_map (λ p. p.operation) (oldest_work self.now.pending queue)) }
+    {
+        match self.oldest(queue) {
+            None => false,
+            Some(Operation::Execute { commands: _ }) => true,
+            Some(Operation::Signal { fence: _, value: _ }) => false,
         }
     }
 

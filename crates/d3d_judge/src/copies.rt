@@ -13,7 +13,7 @@ ghost use Rattle.d3d_judge.specs.Commands.{command_of};
 ghost use Rattle.d3d_judge.specs.Scopes.{home_allows};
 ghost use Rattle.d3d_judge.specs.Setting.{traits_of};
 ghost use Rattle.d3d_judge.specs.CopyScopes.{words_from, words_to, range_by, AreIn, IsIn, IsCopyReady, AreCopiesReady, JudgesCopies, BreaksState, refuses_kind, CanAsk, CanAdd, IsShapedFor, AreSmall, least_of};
-ghost use Rattle.d3d_judge.specs.WordTouches.{words_at, after_scope_at, TellsOne, TellsTen, HaveOneMore, HasTablesOfQueue, KeepAllTies, KeepQueueTables};
+ghost use Rattle.d3d_judge.specs.WordTouches.{words_at, after_scope_at, TellsOne, TellsTen, HaveOneMore, HasTablesOfQueue, KeepAllTies, KeepTables};
 
 use crate::word_touches::{WordAccess, WordTouches};
 use clocks::Clock;
@@ -264,7 +264,7 @@ fn make_for_words(
     requires inside { IsIn (map traits_of world.now.resources) (range_by access) }
     ensures tables { OnOk result (HasTablesOfQueue touches.new.resources queue access) }
     ensures ties { KeepAllTies touches.old.resources touches.new.resources }
-    ensures kept { KeepQueueTables touches.old.resources touches.new.resources }
+    ensures kept { KeepTables touches.old.resources touches.new.resources }
     ensures shaped { IsShapedFor world.now touches.new.resources }
 {
     let words = words_of(world, access.resource);
@@ -285,7 +285,7 @@ fn make_for_copy(
     requires inside { AreIn (map traits_of world.now.resources) (command_of what) }
     ensures ready { OnOk result (IsCopyReady world.now touches.new.resources queue what) }
     ensures ties { KeepAllTies touches.old.resources touches.new.resources }
-    ensures kept { KeepQueueTables touches.old.resources touches.new.resources }
+    ensures kept { KeepTables touches.old.resources touches.new.resources }
     ensures shaped { IsShapedFor world.now touches.new.resources }
 {
     make_for_words(alloc, touches, world, queue, read_words(what))?;
@@ -307,6 +307,7 @@ pub(crate) fn make_for_copies(
     requires inside { Each (λ c. AreIn (map traits_of world.now.resources) (command_of c.what)) commands.now }
     ensures ready { OnOk result (Each (λ c. IsCopyReady world.now touches.new.resources queue c.what) commands.now) }
     ensures ties { KeepAllTies touches.old.resources touches.new.resources }
+    ensures kept { KeepTables touches.old.resources touches.new.resources }
     ensures shaped { IsShapedFor world.now touches.new.resources }
 {
     for command in commands {

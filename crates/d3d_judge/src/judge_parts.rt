@@ -1,19 +1,25 @@
 //! The parts of a judge: what they become at each event.
 
-ghost use Rattle.std.specs.Prelude.{◌≡◌, ◌<◌, [], length, map, IfOk, OnOk, OnErr};
+ghost use Rattle.std.specs.Prelude.{◌≡◌, ◌<◌, [], length, map, None, IfOk, OnOk, OnErr};
 ghost use Rattle.d3d_machine.specs.declared.calls.Call.TheVariants.{Recording as recording, Close as closing, Reset as resetting, Execute as executing, Signal as signalling, HostSignal as host_signalling, HostWait as host_waiting, Value as asking, Write as writing, Read as reading};
 ghost use Rattle.d3d_judge.specs.CopyScopes.{range_by, IsIn};
 ghost use Rattle.d3d_judge.specs.Fed.{IsNext};
-ghost use Rattle.d3d_judge.specs.JudgeParts.{Stands, IsFound, TakesCall, TakesQueue, CallFound, DeedFound, deed_by, OldestIsReady, completion_of, waking_of, AreOpen};
+ghost use Rattle.d3d_judge.specs.JudgeParts.{Stands, IsFound, TakesCall, TakesQueue, CallFound, DeedFound, deed_by, OldestIsReady, call_of_thread, completion_of, waking_of, AreOpen};
+ghost use Rattle.d3d_judge.specs.HostCalls.{access_in};
+ghost use Rattle.d3d_judge.specs.Prepared.{IsMadeForCall, IsMadeForOldest, IsMadeFor, Furnishes, IsTaken, TakesLate, LateFound};
+ghost use Rattle.d3d_judge.specs.WordTouches.{HasTablesOfThread};
+ghost use Rattle.d3d_machine.specs.declared.calls.Reply.{Reply};
 ghost use Rattle.d3d_judge.specs.Setting.{traits_of};
 
 use crate::carried_clocks::CarriedClocks;
 use crate::copies::{CopyScope, copies_rule, make_for_copies};
-use crate::host_accesses::{make_for_host, meets_any, touch_by_host};
+use crate::host_accesses::{access_of, make_for_host, meets_any, touch_by_host};
 use crate::kept::Kept;
+use crate::late::{Late, LateEvent, Taken};
+use crate::made::{Made, copy_in, counts_in};
 use crate::word_touches::{WordAccess, WordTouches};
 use clocks::Clock;
-use d3d_machine::{Call, Event, Lists, Operation, Record, World, read_refusal, write_refusal};
+use d3d_machine::{Call, Event, Lists, Operation, Record, World};
 use dx_base::{AllocatorId, FenceId, ListId, Memory, QueueId, ResourceId, Seq};
 use std::alloc::Global;
 use verdicts::Rule;
@@ -180,35 +186,33 @@ impl JudgeParts {
         None
     }
 
-    /// A host access of a thread: B10, where it meets one that its call does not know. Where it breaks nothing, its
-    /// words are touched.
+    /// A host access of a thread, whose tables are made: B10, where it meets one that its call does not know. Where it
+    /// breaks nothing, its words are touched.
     fn access(
         &mut self,
         kept: &Kept,
         world: &World,
         thread: u32,
         access: WordAccess,
-    ) -> Result<Option<Rule>, Memory>
+    ) -> Option<Rule>
         requires opened { AreOpen world.now kept.now.fed.history self.old }
         requires thread { thread < length world.now.scripts }
-        requires sub { access.sub ≡ 0 }
         requires inside { IsIn (map traits_of world.now.resources) (range_by access) }
-        ensures found { IfOk result (λ rule. DeedFound world.now kept.now.fed.history thread (deed_by access) self.new rule) }
-        ensures same { OnErr result (Stands world.now kept.now.fed.history self.new) }
+        requires tables { HasTablesOfThread self.old.touches.resources thread access }
+        ensures { DeedFound world.now kept.now.fed.history thread (deed_by access) self.new result }
     {
-        make_for_host(self.alloc, &mut self.touches, world, thread, access)?;
         self.clocks.call(thread);
         let clock = self.clocks.thread_clock(thread);
         if meets_any(&self.touches, world, clock, access) {
-            return Ok(Some(Rule::B10));
+            return Some(Rule::B10);
         }
         let number = self.clocks.last_call(thread);
         touch_by_host(&mut self.touches, world, thread, number, access);
-        Ok(None)
+        None
     }
 
-    /// A thread writes words of a buffer. The offset is in bytes.
-    fn write(
+    /// A thread is refused the writing of words of a buffer.
+    fn refuse_write(
         &mut self,
         kept: &Kept,
         world: &World,
@@ -216,28 +220,17 @@ impl JudgeParts {
         buffer: ResourceId,
         offset: u64,
         words: &Seq<u32>,
-    ) -> Result<Option<Rule>, Memory>
-        requires { TakesCall world.now kept.now.fed.history self.old thread (writing buffer offset words.now) }
-        ensures found { IfOk result (λ rule. CallFound world.now kept.now.fed.history thread (writing buffer offset words.now) self.new rule) }
-        ensures same { OnErr result (Stands world.now kept.now.fed.history self.new) }
+    ) -> Option<Rule>
+        requires takes { TakesCall world.now kept.now.fed.history self.old thread (writing buffer offset words.now) }
+        requires refused { access_in world.now (writing buffer offset words.now) ≡ None }
+        ensures { CallFound world.now kept.now.fed.history thread (writing buffer offset words.now) self.new result }
     {
-        let count = words.len();
-        if write_refusal(world, buffer, offset, count).is_some() {
-            self.clocks.call(thread);
-            return Ok(None);
-        }
-        let access = WordAccess {
-            resource: buffer.0,
-            sub: 0,
-            first: (offset / 4) as usize,
-            words: count,
-            writes: true,
-        };
-        self.access(kept, world, thread, access)
+        self.clocks.call(thread);
+        None
     }
 
-    /// A thread reads words of a buffer. The offset and the size are in bytes.
-    fn read(
+    /// A thread is refused the reading of words of a buffer.
+    fn refuse_read(
         &mut self,
         kept: &Kept,
         world: &World,
@@ -245,26 +238,16 @@ impl JudgeParts {
         buffer: ResourceId,
         offset: u64,
         bytes: u64,
-    ) -> Result<Option<Rule>, Memory>
-        requires { TakesCall world.now kept.now.fed.history self.old thread (reading buffer offset bytes) }
-        ensures found { IfOk result (λ rule. CallFound world.now kept.now.fed.history thread (reading buffer offset bytes) self.new rule) }
-        ensures same { OnErr result (Stands world.now kept.now.fed.history self.new) }
+    ) -> Option<Rule>
+        requires takes { TakesCall world.now kept.now.fed.history self.old thread (reading buffer offset bytes) }
+        requires refused { access_in world.now (reading buffer offset bytes) ≡ None }
+        ensures { CallFound world.now kept.now.fed.history thread (reading buffer offset bytes) self.new result }
     {
-        if read_refusal(world, buffer, offset, bytes).is_some() {
-            self.clocks.call(thread);
-            return Ok(None);
-        }
-        let access = WordAccess {
-            resource: buffer.0,
-            sub: 0,
-            first: (offset / 4) as usize,
-            words: (bytes / 4) as usize,
-            writes: false,
-        };
-        self.access(kept, world, thread, access)
+        self.clocks.call(thread);
+        None
     }
 
-    /// A thread makes a call.
+    /// A thread makes a call that accesses no words.
     fn take_call(
         &mut self,
         kept: &Kept,
@@ -272,7 +255,8 @@ impl JudgeParts {
         thread: u32,
         call: &Call,
     ) -> Result<Option<Rule>, Memory>
-        requires { TakesCall world.now kept.now.fed.history self.old thread call.now }
+        requires takes { TakesCall world.now kept.now.fed.history self.old thread call.now }
+        requires quiet { access_in world.now call.now ≡ None }
         ensures found { IfOk result (λ rule. CallFound world.now kept.now.fed.history thread call.now self.new rule) }
         ensures same { OnErr result (Stands world.now kept.now.fed.history self.new) }
     {
@@ -295,12 +279,12 @@ impl JudgeParts {
                 buffer,
                 offset,
                 ref words,
-            } => self.write(kept, world, thread, buffer, offset, words),
+            } => Ok(self.refuse_write(kept, world, thread, buffer, offset, words)),
             Call::Read {
                 buffer,
                 offset,
                 bytes,
-            } => self.read(kept, world, thread, buffer, offset, bytes),
+            } => Ok(self.refuse_read(kept, world, thread, buffer, offset, bytes)),
         }
     }
 
@@ -309,6 +293,7 @@ impl JudgeParts {
         requires { TakesQueue world.now kept.now.fed.history self.old queue }
         ensures ready { OnOk result (OldestIsReady world.now self.new queue) }
         ensures stands { Stands world.now kept.now.fed.history self.new }
+        ensures furnishes { Furnishes self.old self.new }
     {
         match self.clocks.oldest(queue) {
             None => Ok(()),
@@ -374,26 +359,130 @@ impl JudgeParts {
         None
     }
 
-    /// The first rule that an event breaks, where it breaks one. Refused for memory, the parts stand where they stood.
-    pub fn take(
+    /// Takes the memory for a call of a thread. Refused, some may be taken.
+    fn make_for_call(
         &mut self,
         kept: &Kept,
         world: &World,
-        event: &Event,
-    ) -> Result<Option<Rule>, Memory>
+        thread: u32,
+        call: &Call,
+    ) -> Result<Made, Memory>
+        requires { TakesCall world.now kept.now.fed.history self.old thread call.now }
+        ensures made { IfOk result (λ made. IsMadeForCall self.new thread call.now made (access_in world.now call.now)) }
+        ensures stands { Stands world.now kept.now.fed.history self.new }
+        ensures furnishes { Furnishes self.old self.new }
+    {
+        match access_of(world, call) {
+            Some(access) => {
+                make_for_host(self.alloc, &mut self.touches, world, thread, access)?;
+                Ok(Made::Tables)
+            }
+            None => Ok(Made::Copy(call.copied(self.alloc)?)),
+        }
+    }
+
+    /// Takes the memory for the completion of the oldest operation of a queue. Refused, some may be taken.
+    fn make_for_queue(&mut self, kept: &Kept, world: &World, queue: u32) -> Result<Made, Memory>
+        requires { TakesQueue world.now kept.now.fed.history self.old queue }
+        ensures made { IfOk result (λ made. IsMadeForOldest world.now self.new queue made) }
+        ensures stands { Stands world.now kept.now.fed.history self.new }
+        ensures furnishes { Furnishes self.old self.new }
+    {
+        self.make_for_oldest(kept, world, queue)?;
+        Ok(Made::Counts(self.clocks.counts(self.alloc)?))
+    }
+
+    /// Takes all memory that an event needs. Refused, some may be taken.
+    pub fn make(&mut self, kept: &Kept, world: &World, event: &Event) -> Result<Made, Memory>
         requires opened { AreOpen world.now kept.now.fed.history self.old }
         requires next { IsNext world.now kept.now.fed.history event.now }
-        ensures found { IfOk result (λ rule. IsFound world.now kept.now.fed.history event.now self.new rule) }
-        ensures same { OnErr result (Stands world.now kept.now.fed.history self.new) }
+        ensures made { IfOk result (λ made. IsMadeFor world.now self.new event.now made) }
+        ensures stands { Stands world.now kept.now.fed.history self.new }
+        ensures furnishes { Furnishes self.old self.new }
     {
         match event {
             Event::Call {
                 thread,
                 call,
                 reply: _reply,
-            } => self.take_call(kept, world, thread.0, call),
-            Event::Awake(thread) => Ok(self.wake(kept, world, thread.0)),
-            Event::Queue(queue) => self.take_queue(kept, world, queue.0),
+            } => self.make_for_call(kept, world, thread.0, call),
+            Event::Awake(_thread) => Ok(Made::Tables),
+            Event::Queue(queue) => self.make_for_queue(kept, world, queue.0),
+        }
+    }
+
+    /// A thread makes a call, for which memory was taken.
+    fn take_made_call(
+        &mut self,
+        kept: &Kept,
+        world: &World,
+        thread: u32,
+        call: &Call,
+        made: Made,
+    ) -> Taken
+        requires takes { TakesCall world.now kept.now.fed.history self.old thread call.now }
+        requires made { IsMadeForCall self.old thread call.now made (access_in world.now call.now) }
+        ensures { (reply : Reply) → IsTaken world.now kept.now.fed.history (call_of_thread thread call.now reply) self.new result }
+    {
+        match access_of(world, call) {
+            Some(access) => {
+                drop(made);
+                Taken::Told(self.access(kept, world, thread, access))
+            }
+            None => Taken::Later(LateEvent::Call {
+                thread,
+                call: copy_in(made),
+            }),
+        }
+    }
+
+    /// The oldest operation of a queue completes, for which memory was taken.
+    fn take_made_queue(&mut self, kept: &Kept, world: &World, queue: u32, made: Made) -> Taken
+        requires takes { TakesQueue world.now kept.now.fed.history self.old queue }
+        requires made { IsMadeForOldest world.now self.old queue made }
+        ensures { IsTaken world.now kept.now.fed.history (completion_of queue) self.new result }
+    {
+        if self.clocks.completes_execute(queue) {
+            let counts = counts_in(made);
+            return Taken::Told(self.complete(kept, world, queue, &counts));
+        }
+        drop(made);
+        Taken::Later(LateEvent::Completion(queue))
+    }
+
+    /// An event for which memory was taken: the first rule that it breaks, where it breaks one, or that it breaks none and
+    /// is taken later.
+    pub fn take(&mut self, kept: &Kept, world: &World, event: &Event, made: Made) -> Taken
+        requires opened { AreOpen world.now kept.now.fed.history self.old }
+        requires next { IsNext world.now kept.now.fed.history event.now }
+        requires made { IsMadeFor world.now self.old event.now made }
+        ensures { IsTaken world.now kept.now.fed.history event.now self.new result }
+    {
+        match event {
+            Event::Call {
+                thread,
+                call,
+                reply: _reply,
+            } => self.take_made_call(kept, world, thread.0, call, made),
+            Event::Awake(thread) => {
+                drop(made);
+                Taken::Told(self.wake(kept, world, thread.0))
+            }
+            Event::Queue(queue) => self.take_made_queue(kept, world, queue.0, made),
+        }
+    }
+
+    /// An event that was not taken yet. Refused for memory, the parts stand where they stood.
+    pub fn take_late(&mut self, world: &World, late: &Late) -> Result<Option<Rule>, Memory>
+        requires { TakesLate world.now late.now.before.fed.history self.old late.now.what }
+        ensures found { IfOk result (λ rule. LateFound world.now late.now.before.fed.history late.now.what self.new rule) }
+        ensures same { OnErr result (Stands world.now late.now.before.fed.history self.new) }
+    {
+        match late.what {
+            LateEvent::Call { thread, ref call } => {
+                self.take_call(&late.before, world, thread, call)
+            }
+            LateEvent::Completion(queue) => self.take_queue(&late.before, world, queue),
         }
     }
 }

@@ -3,7 +3,7 @@
 ghost use Rattle.std.specs.Prelude.{◌≡◌, ◌<◌, ◌≤◌, ◌^◌, length, IfOk, OnOk};
 ghost use Rattle.d3d_judge.specs.Tables.{any_below};
 ghost use Rattle.d3d_judge.specs.ActorTables.{actor_above, AreMade};
-ghost use Rattle.d3d_judge.specs.SubTables.{scopes_against, calls_against, no_touches, after_scope, after_call, KeepTies, KeepShape, KeepScopeTables, HasActors};
+ghost use Rattle.d3d_judge.specs.SubTables.{scopes_against, calls_against, no_touches, after_scope, after_call, KeepTies, KeepShape, KeepSubTables, HasActors};
 
 use crate::actor_tables::{make_at, no_tables, raise_at, some_above};
 use clocks::Clock;
@@ -98,7 +98,7 @@ impl SubTables {
         ensures touches { OnOk result (AreMade words self.old.queue_touches queue self.new.queue_touches) }
         ensures ties { KeepTies self.old self.new }
         ensures shape { KeepShape words self.old self.new }
-        ensures tables { KeepScopeTables self.old self.new }
+        ensures tables { KeepSubTables self.old self.new }
     {
         make_at(alloc, &mut self.queue_writes, queue as usize, words)?;
         make_at(alloc, &mut self.queue_touches, queue as usize, words)
@@ -113,7 +113,7 @@ impl SubTables {
         ensures touches { OnOk result (AreMade words self.old.thread_touches thread self.new.thread_touches) }
         ensures ties { KeepTies self.old self.new }
         ensures shape { KeepShape words self.old self.new }
-        ensures tables { KeepScopeTables self.old self.new }
+        ensures tables { KeepSubTables self.old self.new }
     {
         make_at(alloc, &mut self.thread_writes, thread as usize, words)?;
         make_at(alloc, &mut self.thread_touches, thread as usize, words)

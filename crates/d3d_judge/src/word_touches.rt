@@ -6,7 +6,7 @@ ghost use Rattle.dx_base.specs.Lists.{changed_at};
 ghost use Rattle.clocks.specs.Clocks.{OfQueue, OfThread};
 ghost use Rattle.d3d_judge.specs.Setting.{traits_of};
 ghost use Rattle.d3d_judge.specs.SubTables.{no_touches, after_scope, after_call};
-ghost use Rattle.d3d_judge.specs.WordTouches.{HasSub, HaveActors, HasQueue, HasThread, HaveQueue, HaveThread, TellsOne, TellsTen, HaveOneMore, HasTablesOfQueue, HasTablesOfThread, TellsHost, untouched, after_scope_at, after_call_at, KeepAllTies, KeepQueueTables, KeepShapes, IsWideAt, SubKept, AreQueuesMade, AreThreadsMade};
+ghost use Rattle.d3d_judge.specs.WordTouches.{HasSub, HaveActors, HasQueue, HasThread, HaveQueue, HaveThread, TellsOne, TellsTen, HaveOneMore, HasTablesOfQueue, HasTablesOfThread, TellsHost, untouched, after_scope_at, after_call_at, KeepAllTies, KeepTables, KeepShapes, IsWideAt, SubKept, AreQueuesMade, AreThreadsMade};
 
 use crate::sub_tables::SubTables;
 use clocks::Clock;
@@ -126,7 +126,7 @@ impl WordTouches {
         ensures tables { OnOk result (HasTablesOfQueue self.new.resources queue access) }
         ensures ties { KeepAllTies self.old.resources self.new.resources }
         ensures shapes { KeepShapes access.resource access.sub words self.old.resources self.new.resources }
-        ensures kept { KeepQueueTables self.old.resources self.new.resources }
+        ensures kept { KeepTables self.old.resources self.new.resources }
     {
         make_for_scope_at(alloc, &mut self.resources, queue, access, words)
     }
@@ -147,7 +147,7 @@ impl WordTouches {
         ensures tables { OnOk result (HasTablesOfThread self.new.resources thread access) }
         ensures ties { KeepAllTies self.old.resources self.new.resources }
         ensures shapes { KeepShapes access.resource access.sub words self.old.resources self.new.resources }
-        ensures kept { KeepQueueTables self.old.resources self.new.resources }
+        ensures kept { KeepTables self.old.resources self.new.resources }
     {
         make_for_call_at(alloc, &mut self.resources, thread, access, words)
     }
@@ -235,7 +235,7 @@ fn make_for_scope_at(
     ensures tables { OnOk result (HasTablesOfQueue resources.new queue access) }
     ensures ties { KeepAllTies resources.old resources.new }
     ensures shapes { KeepShapes access.resource access.sub words resources.old resources.new }
-    ensures kept { KeepQueueTables resources.old resources.new }
+    ensures kept { KeepTables resources.old resources.new }
 {
     let subs = resources.at_mut(access.resource as usize);
     make_for_scope_in(alloc, subs, queue, access, words)
@@ -275,7 +275,7 @@ fn make_for_call_at(
     ensures tables { OnOk result (HasTablesOfThread resources.new thread access) }
     ensures ties { KeepAllTies resources.old resources.new }
     ensures shapes { KeepShapes access.resource access.sub words resources.old resources.new }
-    ensures kept { KeepQueueTables resources.old resources.new }
+    ensures kept { KeepTables resources.old resources.new }
 {
     let subs = resources.at_mut(access.resource as usize);
     make_for_call_in(alloc, subs, thread, access, words)

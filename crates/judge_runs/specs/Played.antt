@@ -9,11 +9,11 @@ use Rattle.d3d_machine.specs.State.{State}
 use Rattle.d3d_machine.specs.World.{are_named}
 use Rattle.verdicts.specs.declared.rules.Verdict.{Verdict}
 use Rattle.verdicts.specs.declared.rules.Verdict.TheVariants.{Clean, Broken}
-use Rattle.d3d_judge.specs.Fed.{Fed}
+use Rattle.d3d_judge.specs.Fed.{JudgeView}
 use Rattle.d3d_judge.specs.Judged.{judge}
 
 -- the machine's state is that after the events that the judge was fed, and no rule is broken
-pub record IsWith (w : World) (s : State) (f : Fed) : Type 0 where
+pub record IsWith (w : World) (s : State) (f : JudgeView) : Type 0 where
   pub named : are_named w ≡ true
   pub shape : HasShape w s
   pub world : f.world ≡ w
@@ -21,7 +21,7 @@ pub record IsWith (w : World) (s : State) (f : Fed) : Type 0 where
   pub clean : judge w f.history ≡ Clean
 
 -- as long as it goes on
-abbrev pub IsPlayed : World → State → Fed → Bool → Type 0
+abbrev pub IsPlayed : World → State → JudgeView → Bool → Type 0
 IsPlayed w s f true = IsWith w s f
 IsPlayed w s f false = Unit {0}
 

@@ -21,14 +21,19 @@ pub struct Events {
     recorded: Vec<Recorded>,
 }
 
-/// The words of a buffer from an offset on, both in bytes.
-fn bytes_of(buffer: u32, offset: u64, bytes: u64) -> Stretch {
+/// So many words of a buffer from an offset in bytes on.
+fn words_of(buffer: u32, offset: u64, words: u64) -> Stretch {
     Stretch {
         resource: buffer,
         sub: 0,
         first: offset / 4,
-        words: bytes / 4,
+        words,
     }
+}
+
+/// The words of a buffer from an offset on, both in bytes.
+fn bytes_of(buffer: u32, offset: u64, bytes: u64) -> Stretch {
+    words_of(buffer, offset, bytes / 4)
 }
 
 /// The subresources of a world.
@@ -144,12 +149,7 @@ impl Events {
                 buffer,
                 offset,
                 words,
-            } => Deed::Stores(Stretch {
-                resource: buffer.0,
-                sub: 0,
-                first: *offset / 4,
-                words: words.len() as u64,
-            }),
+            } => Deed::Stores(words_of(buffer.0, *offset, words.len() as u64)),
             Call::Read {
                 buffer,
                 offset,

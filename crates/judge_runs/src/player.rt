@@ -1,12 +1,15 @@
 //! A world that is played step by step, and judged.
 
-ghost use Rattle.std.specs.Prelude.{◌≡◌, true, IfOk, OnErr};
+ghost use Rattle.std.specs.Prelude.{◌≡◌, ◌++◌, ◌∷◌, [], true, IfOk, OnOk, OnErr};
+ghost use Rattle.d3d_judge.specs.Fed.{IsNext};
+ghost use Rattle.d3d_judge.specs.Judged.{judge as verdict_on};
+ghost use Rattle.verdicts.specs.declared.rules.Verdict.TheVariants.{Clean};
 ghost use Rattle.std.specs.List.{list_all};
 ghost use Rattle.d3d_machine.specs.Shape.{HasShape};
 ghost use Rattle.d3d_machine.specs.World.{are_named, is_small_resource};
 ghost use Rattle.judge_runs.specs.Played.{IsTaken, clean};
 
-use d3d_judge::{Judge, Verdict};
+use d3d_judge::{FeedFault, Judge, Verdict};
 use d3d_machine::{Event, Machine, Resource, World};
 use dx_base::{Memory, QueueId, ThreadId};
 use std::alloc::Global;
@@ -109,7 +112,7 @@ impl Player {
         }
         match taken(&mut self.machine, &self.world, turn)? {
             None => Ok(None),
-            Some(event) => match self.judge.feed(&self.world, &event) {
+            Some(event) => match verdict_on_step(&mut self.judge, &self.world, &event, turn) {
                 Ok(verdict) => {
                     self.goes_on = is_clean(verdict);
                     Ok(Some(Judged { event, verdict }))
@@ -122,6 +125,41 @@ impl Player {
             },
         }
     }
+}
+
+/// Prepares a judge for an event of the first thread or queue; where it is refused, a second time.
+fn prepare(judge: &mut Judge, world: &World, event: &Event, turn: Turn) -> Result<(), FeedFault>
+    requires world { judge.old.world ≡ world.now }
+    requires clean { verdict_on world.now judge.old.history ≡ Clean }
+    requires next { IsNext world.now judge.old.history event.now }
+    ensures world { judge.new.world ≡ judge.old.world }
+    ensures history { judge.new.history ≡ judge.old.history }
+{
+    match turn {
+        Turn::Thread(0) | Turn::Queue(0) => match judge.prepare(world, event) {
+            Ok(()) => Ok(()),
+            Err(_refused) => judge.prepare(world, event),
+        },
+        Turn::Thread(_) | Turn::Queue(_) => Ok(()),
+    }
+}
+
+/// What a judge says of an event. It is prepared for those of the first thread and queue.
+fn verdict_on_step(
+    judge: &mut Judge,
+    world: &World,
+    event: &Event,
+    turn: Turn,
+) -> Result<Verdict, FeedFault>
+    requires world { judge.old.world ≡ world.now }
+    requires clean { verdict_on world.now judge.old.history ≡ Clean }
+    requires next { IsNext world.now judge.old.history event.now }
+    ensures verdict { IfOk result (λ verdict. verdict ≡ verdict_on world.now (judge.old.history ++ event.now ∷ [])) }
+    ensures world { OnOk result (judge.new.world ≡ judge.old.world) }
+    ensures history { OnOk result (judge.new.history ≡ judge.old.history ++ event.now ∷ []) }
+{
+    prepare(judge, world, event, turn)?;
+    judge.feed(world, event)
 }
 
 /// Whether no rule is broken.

@@ -1,4 +1,4 @@
-use Rattle.judge_runs.proofs.Played.{thread_result, queue_result}
+use Rattle.judge_runs.proofs.Played.{thread_result}
 use Rattle.judge_runs.proofs.player.taken.Goals as goal
 
 pub returns-else-thread-len-clause-event : goal.returns-else-thread-len-clause-event

@@ -8,4 +8,4 @@ pub returns-clause-shape : goal.returns-clause-shape
 returns-clause-shape c = thread_shape c.args.self.now c.args.words c.args.thread c.make_at.new.tables c.make_at-2.new.tables c.make_at-2.result c.in_ok-make_at.ensures.made c.make_at-2.ensures.made c.make_at-2.ensures.same
 
 pub returns-clause-tables : goal.returns-clause-tables
-returns-clause-tables c = thread_tables_stay c.args.self.now c.make_at.new.tables c.make_at-2.new.tables
+returns-clause-tables c = thread_tables_stay c.args.self.now c.args.words c.args.thread c.make_at.new.tables c.make_at-2.new.tables c.make_at-2.result c.in_ok-make_at.ensures.made c.make_at-2.ensures.made c.make_at-2.ensures.same
