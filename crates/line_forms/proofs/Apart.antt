@@ -1,5 +1,5 @@
 -- A line of one form is of no form that is tried before.
-use Rattle.line_forms.proofs.Vocabulary.{ℕ, zero, suc, ◌≡◌, ◌&&◌, ◌||◌, ◌==◌, not, Bool, true, false, List, [], ◌∷◌, ◌++◌, length, slice_get, Some, Option, refl, sym, rules, arith, cond, if◌then◌else◌, list_all, filter, bytes_eq, and_parts, nat_tests, PartValue, Rest, Nothing, Names, Words, AllGood, is_other, differ, apart, are_apart, all_apart, Place, Word, Name, NewName, Number, DataWord, FlagWord, Set, Choice, AllOr, AllOrNumber, Row, Known, part_text, part_texts, rest_texts, Naming}
+use Rattle.line_forms.proofs.Vocabulary.{ℕ, zero, suc, ◌≡◌, ◌&&◌, ◌||◌, ◌==◌, not, Bool, true, false, List, [], ◌∷◌, ◌++◌, length, slice_get, Some, Option, refl, sym, rules, arith, cond_both, if◌then◌else◌, list_all, filter, bytes_eq, and_parts, nat_tests, PartValue, Rest, Nothing, Names, Words, AllGood, is_other, differ, apart, are_apart, all_apart, Place, Word, Name, NewName, Number, DataWord, FlagWord, Set, Choice, AllOr, AllOrNumber, Row, Known, part_text, part_texts, rest_texts, Naming}
 use Rattle.line_forms.specs.Finding.{may_stand, may_end, fits, form_for, may_begin, first_byte_of, beginning_with}
 
 has_some : (k : ℕ) → (suc k == 0) ≡ false
@@ -22,40 +22,22 @@ module _ (n : Naming) (known : Known) where
       flipped : (t : Bool) → not t ≡ true → t ≡ false
       flipped true e = cc
       flipped false e = refl
-  other_word a (Name k) e = cc
-  other_word a NewName e = cc
-  other_word a Number e = cc
-  other_word a DataWord e = cc
-  other_word a FlagWord e = cc
-  other_word a (Set s) e = cc
-  other_word a (Choice c) e = cc
-  other_word a (AllOr k) e = cc
-  other_word a AllOrNumber e = cc
+  other_word a _ e = cc
 
   cannot_stand : (p q : Place) (v : PartValue) → differ p q ≡ true → may_stand q (part_text known p v) ≡ false
   cannot_stand (Word a) q v e = other_word a q e
-  cannot_stand (Name k) q v e = cc
-  cannot_stand NewName q v e = cc
-  cannot_stand Number q v e = cc
-  cannot_stand DataWord q v e = cc
-  cannot_stand FlagWord q v e = cc
-  cannot_stand (Set s) q v e = cc
-  cannot_stand (Choice c) q v e = cc
-  cannot_stand (AllOr k) q v e = cc
-  cannot_stand AllOrNumber q v e = cc
+  cannot_stand _ q v e = cc
 
   pub cannot_fit : (ps : List Place) (vs : List PartValue) (r : Rest) (rs : List ℕ) (qs : List Place) (s : Rest) → AllGood n known ps vs →
       apart ps r qs s ≡ true → fits qs s (part_texts known ps vs ++ rest_texts known r rs) ≡ false
   unfolding apart fits part_texts rest_texts
   cannot_fit [] [] r rs [] s good e = cc
   cannot_fit [] [] Nothing rs (q ∷ qs) s good e = refl
-  cannot_fit [] [] (Names k) rs (q ∷ qs) s good e = cc
-  cannot_fit [] [] Words rs (q ∷ qs) s good e = cc
+  cannot_fit [] [] _ rs (q ∷ qs) s good e = cc
   cannot_fit [] (v ∷ vs) r rs qs s good e = absurd good
   cannot_fit (p ∷ ps) [] r rs qs s good e = absurd good
   cannot_fit (p ∷ ps) (v ∷ vs) r rs [] Nothing good e = has_some (length (part_texts known ps vs ++ rest_texts known r rs))
-  cannot_fit (p ∷ ps) (v ∷ vs) r rs [] (Names k) good e = cc
-  cannot_fit (p ∷ ps) (v ∷ vs) r rs [] Words good e = cc
+  cannot_fit (p ∷ ps) (v ∷ vs) r rs [] _ good e = cc
   cannot_fit (p ∷ ps) (v ∷ vs) r rs (q ∷ qs) s good e =
       by_word (differ p q) refl (cannot_fit ps vs r rs qs s good.1) e
     where
@@ -71,29 +53,19 @@ module _ (n : Naming) (known : Known) where
     where
       same : (t : List ℕ) → bytes_eq t t ≡ true
       same t = search rules
-  stands (Name k) v = refl
-  stands NewName v = refl
-  stands Number v = refl
-  stands DataWord v = refl
-  stands FlagWord v = refl
-  stands (Set s) v = refl
-  stands (Choice c) v = refl
-  stands (AllOr k) v = refl
-  stands AllOrNumber v = refl
+  stands _ v = refl
 
   ends : (r : Rest) (rs : List ℕ) → may_end r (rest_texts known r rs) ≡ true
   unfolding rest_texts
   ends Nothing rs = refl
-  ends (Names k) rs = refl
-  ends Words rs = refl
+  ends _ rs = refl
 
   pub does_fit : (ps : List Place) (vs : List PartValue) (r : Rest) (rs : List ℕ) → AllGood n known ps vs →
       fits ps r (part_texts known ps vs ++ rest_texts known r rs) ≡ true
   unfolding fits part_texts
   does_fit [] [] r rs good = ends r rs
-  does_fit [] (v ∷ vs) r rs good = absurd good
-  does_fit (p ∷ ps) [] r rs good = absurd good
   does_fit (p ∷ ps) (v ∷ vs) r rs good = rw (stands p v, does_fit ps vs r rs good.1) refl
+  does_fit _ _ r rs good = absurd good
 
   -- the form of a line is found
   pub found_in : {F : Type 0} (row : F → Row) (fs : List F) (k : ℕ) (f : F) (vs : List PartValue) (rs : List ℕ) → all_apart row fs ≡ true →
@@ -115,26 +87,14 @@ other_byte (p ∷ ps) r [] e = refl
 other_byte (Word [] ∷ ps) r (w ∷ ws) e = cc
 other_byte (Word (c ∷ cs) ∷ ps) r ([] ∷ ws) e = refl
 other_byte (Word (c ∷ cs) ∷ ps) r ((b ∷ bs) ∷ ws) e = rw e refl
-other_byte (Name k ∷ ps) r (w ∷ ws) e = cc
-other_byte (NewName ∷ ps) r (w ∷ ws) e = cc
-other_byte (Number ∷ ps) r (w ∷ ws) e = cc
-other_byte (DataWord ∷ ps) r (w ∷ ws) e = cc
-other_byte (FlagWord ∷ ps) r (w ∷ ws) e = cc
-other_byte (Set s ∷ ps) r (w ∷ ws) e = cc
-other_byte (Choice c ∷ ps) r (w ∷ ws) e = cc
-other_byte (AllOr k ∷ ps) r (w ∷ ws) e = cc
-other_byte (AllOrNumber ∷ ps) r (w ∷ ws) e = cc
+other_byte (_ ∷ ps) r (w ∷ ws) e = cc
 
 -- the form of a line is found among those that may begin with its first byte
 pub found_beginning : {F : Type 0} (row : F → Row) (fs : List F) (ws : List (List ℕ)) →
     form_for row (beginning_with row fs (first_byte_of ws)) ws ≡ form_for row fs ws
 unfolding form_for
 found_beginning row [] ws = refl
-found_beginning {F} row (f ∷ fs) ws = by_test (may_begin (first_byte_of ws) (row f).parts) refl (found_beginning row fs ws)
-  where
-    by_test : (t : Bool) → may_begin (first_byte_of ws) (row f).parts ≡ t →
-        form_for row (beginning_with row fs (first_byte_of ws)) ws ≡ form_for row fs ws →
-        form_for row (cond t (f ∷ beginning_with row fs (first_byte_of ws)) (beginning_with row fs (first_byte_of ws))) ws
-        ≡ (if fits (row f).parts (row f).rest ws then Some f else form_for row fs ws)
-    by_test true is more = rw more refl
-    by_test false is more = rw (other_byte (row f).parts (row f).rest ws is) more
+found_beginning {F} row (f ∷ fs) ws =
+    cond_both (may_begin (first_byte_of ws) (row f).parts) (f ∷ beginning_with row fs (first_byte_of ws)) (beginning_with row fs (first_byte_of ws))
+    (λ gs. form_for row gs ws ≡ (if fits (row f).parts (row f).rest ws then Some f else form_for row fs ws))
+    (λ is. rw (found_beginning row fs ws) refl) (λ is. rw (other_byte (row f).parts (row f).rest ws is) (found_beginning row fs ws))

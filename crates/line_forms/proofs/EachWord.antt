@@ -1,5 +1,5 @@
 -- What each of several words means, one more word at a time.
-use Rattle.line_forms.proofs.Vocabulary.{ℕ, suc, ◌≡◌, ◌+◌, ◌<◌, ◌≤◌, ◌∙◌, sym, List, [], ◌∷◌, ◌++◌, length, map, drop, drop-cons, get_or, slice_get, min, nat_le, Bool, true, false, zero, Bor, Result, Ok, Err, refl, ap, arith, add-one, append_assoc, append-nil, nat_tests, leb-true, drop_all, length-map, Cause, Place, place_of, PartValue, earlier_of, wrapped, two_of, Naming, read_at, read_parts, each_of}
+use Rattle.line_forms.proofs.Vocabulary.{ℕ, suc, ◌≡◌, ◌+◌, ◌<◌, ◌≤◌, ◌∙◌, sym, List, [], ◌∷◌, ◌++◌, length, map, drop, drop-cons, get_or, slice_get, min, nat_le, Bool, true, false, zero, Bor, Result, Ok, Err, refl, ap, arith, add-one, append_assoc, append-nil, nat_tests, leb_tells, inl, inr, drop_all, length-map, Cause, Place, place_of, PartValue, earlier_of, wrapped, two_of, Naming, read_at, read_parts, each_of}
 use Rattle.line_forms.specs.declared.part.Part.{Part}
 
 -- of three causes the earliest is the same in whatever order they are compared
@@ -17,13 +17,10 @@ module _ {A : Type 0} where
       behind_of (wrapped (λ v. v.0 ++ v.1 ∷ []) (two_of found x)) more ≡ behind_of found (wrapped (λ v. v.0 ∷ v.1) (two_of x more))
   unfolding two_of
   moved (Ok xs) (Ok x) (Ok ys) = ap Ok (append_assoc xs (x ∷ []) ys)
-  moved (Ok xs) (Ok x) (Err e) = refl
   moved (Ok xs) (Err d) (Ok ys) = refl
-  moved (Ok xs) (Err d) (Err e) = refl
   moved (Err c) (Ok x) (Ok ys) = refl
-  moved (Err c) (Ok x) (Err e) = refl
-  moved (Err c) (Err d) (Ok ys) = refl
   moved (Err c) (Err d) (Err e) = ap Err (earlier_assoc c d e)
+  moved _ _ _ = refl
 
   -- no word is left
   ended : (f : List ℕ → Result A Cause) (found : Result (List A) Cause) → behind_of found (each_of f []) ≡ found
@@ -106,13 +103,9 @@ module _ (n : Naming) where
 
 -- no more can be dropped than there is
 pub drop_most : {A : Type 0} (i : ℕ) (xs : List A) → drop (min i (length xs)) xs ≡ drop i xs
-drop_most i xs = by_test (nat_le i (length xs)) refl
-  where
-    by_test : (t : Bool) → nat_le i (length xs) ≡ t → drop (min i (length xs)) xs ≡ drop i xs
-    by_test true is =
-        let below : i ≤ length xs = leb-true i (length xs) is in
-        let same : min i (length xs) ≡ i = omega (arith, below) in rw same refl
-    by_test false is =
-        let above : length xs ≤ i = grind (arith, nat_tests) in
-        let same : min i (length xs) ≡ length xs = omega (arith, above) in
-        rw (same, drop_all (length xs) xs (omega arith), drop_all i xs above) refl
+drop_most i xs = elim (leb_tells i (length xs)) [
+  | inl h ↦ let same : min i (length xs) ≡ i = omega (arith, h.1) in rw same refl
+  | inr h ↦
+      let same : min i (length xs) ≡ length xs = omega (arith, h.1) in
+      rw (same, drop_all (length xs) xs (omega arith), drop_all i xs (omega (arith, h.1))) refl
+]

@@ -3,7 +3,7 @@ use Rattle.line_forms.proofs.Vocabulary.{ℕ, zero, suc, ◌≡◌, ◌∙◌, �
 use Rattle.line_forms.specs.declared.part.PartValue.TheVariants as value
 use Rattle.line_forms.proofs.Apart.{found_in}
 use Rattle.line_forms.proofs.ChoicesBack.{choice_own}
-use Rattle.line_forms.proofs.Grammar.{grammar, hex_said, part_said, rest_said}
+use Rattle.line_forms.proofs.Grammar.{grammar, hex_tells, part_tells, rest_tells}
 use Rattle.line_forms.proofs.SetsBack.{set_again}
 use Rattle.line_forms.proofs.SetsSay.{set_said}
 use Rattle.line_forms.proofs.WordsBack.{word_back, word_small, flag_back}
@@ -18,40 +18,32 @@ value_there (x ∷ vs) us v (suc i) e = value_there vs us v i e
 -- values from a place on are of their parts' kinds
 from_place : (ps : List Place) (us vs : List PartValue) (i : ℕ) → drop i vs ≡ us → AllParts (λ p v. shaped p v ≡ v) ps us → shaped_from i ps vs ≡ us
 from_place [] [] vs i e good = refl
-from_place [] (u ∷ us) vs i e good = absurd good
-from_place (p ∷ ps) [] vs i e good = absurd good
 from_place (p ∷ ps) (u ∷ us) vs i e good =
     let there = value_there vs us u i e in
     rw (there.0, good.0, from_place ps us vs (i + 1) (rw (add-one i) there.1) good.1) refl
+from_place _ _ vs i e good = absurd good
 
 -- a fact of each value that a word says
 parts_hold : (n : Naming) (P : Place → PartValue → Type 0) → ((p : Place) (w : List ℕ) (v : PartValue) → Says n p v w → P p v) →
     (ps : List Place) (vs : List PartValue) (ws : List (List ℕ)) → SayAll n ps vs ws → AllParts P ps vs
 parts_hold n P holds [] [] ws h = tt
-parts_hold n P holds [] (v ∷ vs) ws h = absurd h
 parts_hold n P holds (p ∷ ps) vs [] h = absurd h
-parts_hold n P holds (p ∷ ps) [] (w ∷ ws) h = absurd h
 parts_hold n P holds (p ∷ ps) (v ∷ vs) (w ∷ ws) h = (holds p w v h.0, parts_hold n P holds ps vs ws h.1)
+parts_hold n P holds _ _ _ h = absurd h
 
 -- what is said is of its part's kind
 part_shaped : (n : Naming) (p : Place) (w : List ℕ) (v : PartValue) → Says n p v w → shaped p v ≡ v
 part_shaped n (Word t) w v h = sym h.1
-part_shaped n (Name k) w v h = rw (h.2) refl
-part_shaped n NewName w v h = rw (h.2) refl
-part_shaped n Number w v h = rw (h.2) refl
-part_shaped n DataWord w v h = rw (h.2) refl
-part_shaped n FlagWord w v h = rw (h.2) refl
-part_shaped n (Set s) w v h = rw (h.2) refl
-part_shaped n (Choice c) w v h = rw (h.2) (ap value.Chosen (choice_own c w h.0 h.1).kind)
+part_shaped n (Choice c) w v h = rw (h.2) (ap value.Chosen (choice_own c w h.0 h.1))
 part_shaped n (AllOr k) w v (inl h) = rw (h.1) refl
 part_shaped n (AllOr k) w v (inr h) = rw (h.1.2) refl
 part_shaped n AllOrNumber w v (inl h) = rw (h.1) refl
 part_shaped n AllOrNumber w v (inr h) = rw (h.1.2) refl
+part_shaped n _ w v h = rw (h.2) refl
 
 rest_shaped : (n : Naming) (r : Rest) (xs : List ℕ) (ws : List (List ℕ)) → SayRest n r xs ws → shaped_rest r xs ≡ xs
 rest_shaped n Nothing xs ws h = sym h.1
-rest_shaped n (Names k) xs ws h = refl
-rest_shaped n Words xs ws h = refl
+rest_shaped n _ xs ws h = refl
 
 line_shaped : (n : Naming) (row : Row) (ws : List (List ℕ)) (line : Line) → read_row n row ws ≡ Ok line → shaped_line row line ≡ line
 line_shaped n row ws line e =
@@ -60,13 +52,15 @@ line_shaped n row ws line e =
     rw (from_place row.parts line.values line.values 0 refl all, rest_shaped n row.rest line.rest (drop (length row.parts) ws) says.rest) refl
 
 -- data words are below 2^32
+pub hex_small : (w : List ℕ) (i : ℕ) → IsHexadecimal i w → i < 2 ^ 32
+hex_small w i h = word_small w i ((hex_tells w).said i h)
+
 pub each_small : (xs : List ℕ) (ws : List (List ℕ)) → SayEach IsHexadecimal xs ws → (length xs ≡ length ws) × (list_all (λ x. nat_lt x (2 ^ 32)) xs ≡ true)
 each_small [] [] h = (refl, refl)
-each_small [] (w ∷ ws) h = absurd h
-each_small (x ∷ xs) [] h = absurd h
 each_small (x ∷ xs) (w ∷ ws) h =
     let more = each_small xs ws h.1 in
-    (ap suc more.0, and_from (nat_lt x (2 ^ 32)) (list_all (λ y. nat_lt y (2 ^ 32)) xs) (lt-ltb x (2 ^ 32) (word_small w x (hex_said w x h.0))) more.1)
+    (ap suc more.0, and_from (nat_lt x (2 ^ 32)) (list_all (λ y. nat_lt y (2 ^ 32)) xs) (lt-ltb x (2 ^ 32) (hex_small w x h.0)) more.1)
+each_small _ _ h = absurd h
 
 -- and are read of eight digits
 words_from : (xs : List ℕ) → list_all (λ x. nat_lt x (2 ^ 32)) xs ≡ true → each_of word_of (map hex_word xs) ≡ Ok xs
@@ -84,21 +78,14 @@ words_again n known xs some few small =
 
 -- the word of a part is printed as it was read
 abbrev pub is_kept_part : Place → Bool
-is_kept_part (Word t) = true
-is_kept_part (Name k) = true
-is_kept_part NewName = true
-is_kept_part Number = true
 is_kept_part DataWord = false
 is_kept_part FlagWord = false
 is_kept_part (Set s) = false
-is_kept_part (Choice c) = true
-is_kept_part (AllOr k) = true
-is_kept_part AllOrNumber = true
+is_kept_part _ = true
 
 abbrev pub is_kept_rest : Rest → Bool
-is_kept_rest Nothing = true
-is_kept_rest (Names k) = true
 is_kept_rest Words = false
+is_kept_rest _ = true
 
 abbrev pub is_kept : Row → Bool
 is_kept row = list_all is_kept_part row.parts && is_kept_rest row.rest
@@ -109,30 +96,26 @@ module _ (n : Naming) (known : Known) (named : AreNamed n known) where
   part_kept (Name k) w v kept h = rw (h.2) (named.things k w h.0 h.1)
   part_kept NewName w v kept h = rw (h.2) (named.new w h.0 h.1)
   part_kept Number w v kept h = rw (h.2) (sym h.1.1)
-  part_kept DataWord w v kept h = cc
-  part_kept FlagWord w v kept h = cc
-  part_kept (Set s) w v kept h = cc
   part_kept (Choice c) w v kept h = rw (h.2) (sym h.1.0)
   part_kept (AllOr k) w v kept (inl h) = rw (h.1) (sym h.0)
   part_kept (AllOr k) w v kept (inr h) = rw (h.1.2) (named.things k w h.1.0 h.1.1)
   part_kept AllOrNumber w v kept (inl h) = rw (h.1) (sym h.0)
   part_kept AllOrNumber w v kept (inr h) = rw (h.1.2) (sym h.1.1.1)
+  part_kept _ w v kept h = cc
 
   parts_kept : (ps : List Place) (vs : List PartValue) (ws : List (List ℕ)) → list_all is_kept_part ps ≡ true → SayAll n ps vs ws →
       part_texts known ps vs ++ drop (length ps) ws ≡ ws
   unfolding part_texts
   parts_kept [] [] ws kept h = refl
-  parts_kept [] (v ∷ vs) ws kept h = absurd h
   parts_kept (p ∷ ps) vs [] kept h = absurd h
-  parts_kept (p ∷ ps) [] (w ∷ ws) kept h = absurd h
   parts_kept (p ∷ ps) (v ∷ vs) (w ∷ ws) kept h =
       let both = and_parts (is_kept_part p) (list_all is_kept_part ps) kept in rw (part_kept p w v both.0 h.0, parts_kept ps vs ws both.1 h.1) refl
+  parts_kept _ _ _ kept h = absurd h
 
   each_kept : (k : Kind) (xs : List ℕ) (ws : List (List ℕ)) → SayEach (λ i w. n.number k w ≡ Ok i) xs ws → map (known k) xs ≡ ws
   each_kept k [] [] h = refl
-  each_kept k [] (w ∷ ws) h = absurd h
-  each_kept k (x ∷ xs) [] h = absurd h
   each_kept k (x ∷ xs) (w ∷ ws) h = rw (named.things k w x h.0, each_kept k xs ws h.1) refl
+  each_kept k _ _ h = absurd h
 
   rest_kept : (r : Rest) (xs : List ℕ) (ws : List (List ℕ)) → is_kept_rest r ≡ true → SayRest n r xs ws → rest_texts known r xs ≡ ws
   unfolding rest_texts
@@ -151,19 +134,13 @@ module _ (n : Naming) (known : Known) (named : AreNamed n known) where
 
   -- what is said is read of its printed word
   as_read : (p : Place) (w : List ℕ) (v : PartValue) → is_kept_part p ≡ true → Says n p v w → read_part n p (part_text known p v) ≡ Ok v
-  as_read p w v kept h = ap (read_part n p) (part_kept p w v kept h) ∙ part_said n p w v h
+  as_read p w v kept h = ap (read_part n p) (part_kept p w v kept h) ∙ (part_tells n p w).said v h
 
   part_reads : (p : Place) (w : List ℕ) (v : PartValue) → Says n p v w → read_part n p (part_text known p v) ≡ Ok v
-  part_reads (Word t) w v h = as_read (Word t) w v refl h
-  part_reads (Name k) w v h = as_read (Name k) w v refl h
-  part_reads NewName w v h = as_read NewName w v refl h
-  part_reads Number w v h = as_read Number w v refl h
-  part_reads DataWord w v h = rw (h.2) (ap (wrapped value.Word) (word_back h.0 (word_small w h.0 (hex_said w h.0 h.1))))
-  part_reads FlagWord w v h = rw (h.2) (ap (wrapped value.Word) (flag_back h.0 (word_small w h.0 (hex_said w h.0 h.1))))
+  part_reads DataWord w v h = rw (h.2) (ap (wrapped value.Word) (word_back h.0 (hex_small w h.0 h.1)))
+  part_reads FlagWord w v h = rw (h.2) (ap (wrapped value.Word) (flag_back h.0 (hex_small w h.0 h.1)))
   part_reads (Set s) w v h = rw (h.2) (ap (wrapped value.Set) (set_again s w h.0 (set_said s w h.0 h.1)))
-  part_reads (Choice c) w v h = as_read (Choice c) w v refl h
-  part_reads (AllOr k) w v h = as_read (AllOr k) w v refl h
-  part_reads AllOrNumber w v h = as_read AllOrNumber w v refl h
+  part_reads p w v h = as_read p w v refl h
 
   part_good : (p : Place) (w : List ℕ) (v : PartValue) → Says n p v w → IsGood n known p v
   part_good p w v h = record { kind = part_shaped n p w v h; reads = part_reads p w v h }
@@ -172,7 +149,7 @@ module _ (n : Naming) (known : Known) (named : AreNamed n known) where
   rest_again : (r : Rest) (xs : List ℕ) (ws : List (List ℕ)) → SayRest n r xs ws → read_rest n r (rest_texts known r xs) ≡ Ok xs
   unfolding read_rest rest_texts
   rest_again Nothing xs ws h = ap Ok (sym h.1)
-  rest_again (Names k) xs ws h = ap (each_of (n.number k)) (each_kept k xs ws h) ∙ rest_said n (Names k) xs ws h
+  rest_again (Names k) xs ws h = ap (each_of (n.number k)) (each_kept k xs ws h) ∙ (rest_tells n (Names k) ws).said xs h
   rest_again Words xs ws h =
       let all = each_small xs ws h.2 in
       words_again n known xs (le-leb 1 (length xs) (omega (arith, all.0, h.0))) (le-leb (length xs) 256 (omega (arith, all.0, h.1))) all.1
@@ -193,17 +170,15 @@ parts_back : (n : Naming) (known : Known) (ps : List Place) (vs : List PartValue
     read_parts n ps (part_texts known ps vs ++ more) ≡ Ok vs
 unfolding read_parts part_texts two_of
 parts_back n known [] [] more good = refl
-parts_back n known [] (v ∷ vs) more good = absurd good
-parts_back n known (p ∷ ps) [] more good = absurd good
 parts_back n known (p ∷ ps) (v ∷ vs) more good = rw (good.0.reads, parts_back n known ps vs more good.1) refl
+parts_back n known _ _ more good = absurd good
 
 behind : (n : Naming) (known : Known) (ps : List Place) (vs : List PartValue) (more : List (List ℕ)) → AllGood n known ps vs →
     drop (length ps) (part_texts known ps vs ++ more) ≡ more
 unfolding part_texts
 behind n known [] [] more good = refl
-behind n known [] (v ∷ vs) more good = absurd good
-behind n known (p ∷ ps) [] more good = absurd good
 behind n known (p ∷ ps) (v ∷ vs) more good = behind n known ps vs more good.1
+behind n known _ _ more good = absurd good
 
 -- a good line is read of its own words
 line_back : (n : Naming) (known : Known) (row : Row) (line : Line) → IsGoodLine n known row line → read_row n row (line_words known row line) ≡ Ok line

@@ -1,5 +1,5 @@
 -- A printed set is read as what it was printed from: each of the sets is tried.
-use Rattle.line_forms.proofs.Vocabulary.{ℕ, zero, suc, ◌≡◌, ◌<◌, ◌^◌, ◌==◌, ◌+◌, ◌-◌, bit_and, bit_or, Bool, true, false, List, [], ◌∷◌, length, Option, Some, None, Result, Ok, Err, refl, subst, rules, arith, lit≤, if◌then◌else◌, list_all, AllByRecursion, bytes_eq, Cause, SetOf, rows_of, with_bit, set_in, set_from, set_text, row_of, pieces_at, and_parts, nat_tests, length-slice_split, or_lt, le_or_r}
+use Rattle.line_forms.proofs.Vocabulary.{ℕ, zero, suc, ◌≡◌, ◌<◌, ◌^◌, ◌==◌, ◌+◌, ◌-◌, bit_and, bit_or, Bool, true, false, List, [], ◌∷◌, length, Option, Some, None, Result, Ok, Err, refl, subst, cond_both, rules, arith, lit≤, if◌then◌else◌, list_all, AllByRecursion, bytes_eq, Cause, SetOf, rows_of, with_bit, set_in, set_from, set_text, row_of, pieces_at, and_parts, nat_tests, length-slice_split, or_lt, le_or_r}
 use Rattle.line_forms.specs.declared.cause.Cause.TheVariants as cause
 use Rattle.line_forms.specs.declared.sets.SetOf.TheVariants as set
 
@@ -35,8 +35,7 @@ is_back k s = reads_as (set_from (rows_of k) (set_text (rows_of k) (s + 1) false
 all_back : (k : SetOf) → list_all (is_back k) (below 127) ≡ true
 unfolding below is_back reads_as set_from set_in set_text row_of
 all_back set.Sync = refl
-all_back set.Access = refl
-all_back set.State = refl
+all_back _ = refl
 
 -- a set of known names that is not empty is read of its text
 pub set_back : (k : SetOf) (s : ℕ) → 0 < s → s < 128 → set_from (rows_of k) (set_text (rows_of k) s false) ≡ Ok s
@@ -52,11 +51,9 @@ rows_pass : {T : Type 0} (P : T → Type 0) (rows : List (List ℕ × T)) → Al
     row_of rows w ≡ Some x → P x
 unfolding row_of
 rows_pass P [] all w x e = cc
-rows_pass {T} P (row ∷ rows) all w x e = by_test (bytes_eq w row.0) (λ found. rows_pass P rows all.1 w x found) e
-  where
-    by_test : (t : Bool) → (row_of rows w ≡ Some x → P x) → (if t then Some row.1 else row_of rows w) ≡ Some x → P x
-    by_test true behind e = let value : row.1 ≡ x = cc in subst P value all.0
-    by_test false behind e = behind e
+rows_pass {T} P (row ∷ rows) all w x e =
+    cond_both (bytes_eq w row.0) (Some row.1) (row_of rows w) (λ o. o ≡ Some x → P x)
+    (λ is e. let value : row.1 ≡ x = cc in subst P value all.0) (λ is e. rows_pass P rows all.1 w x e) e
 
 -- a bit of the table
 pub record IsBit (b : ℕ) : Type 0 where
@@ -85,9 +82,8 @@ sets_fit rows all (w ∷ ws) s e = by_row (row_of rows w) (set_in rows ws) refl 
 
     by_row : (found : Option ℕ) (others : Result ℕ Cause) → row_of rows w ≡ found → ((t : ℕ) → others ≡ Ok t → IsSet (is_some_list ws) t) →
         with_bit found others ≡ Ok s → IsSet true s
-    by_row None others is fit e = cc
-    by_row (Some b) (Err c) is fit e = cc
     by_row (Some b) (Ok t) is fit e = joins b t (rows_pass IsBit rows all w b is) (fit t refl).small (bit_and t b == 0) e
+    by_row _ _ is fit e = cc
 
 some_long : {A : Type 0} (xs : List A) (k : ℕ) → length xs ≡ k + 1 → is_some_list xs ≡ true
 unfolding is_some_list
@@ -99,8 +95,7 @@ some_pieces w = some_long (pieces_at 124 w) _ (length-slice_split (λ b. b == 12
 
 pub bits : (k : SetOf) → AllByRecursion (λ (row : List ℕ × ℕ). IsBit row.1) (rows_of k)
 bits set.Sync = search rules
-bits set.Access = search rules
-bits set.State = search rules
+bits _ = search rules
 
 -- a set that is read has a name, and known names alone
 pub set_fits : (k : SetOf) (w : List ℕ) (s : ℕ) → set_from (rows_of k) w ≡ Ok s → (0 < s) × (s < 128)

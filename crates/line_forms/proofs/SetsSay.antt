@@ -1,5 +1,5 @@
 -- A word is read as a set exactly where it is names of the set's table with bars between, each at most once.
-use Rattle.line_forms.proofs.Vocabulary.{ℕ, ◌≡◌, ◌≢◌, ◌∙◌, ◌<◌, ◌==◌, ◌||◌, inl, inr, not, bit_and, bit_or, eqb, Bool, true, false, List, [], ◌∷◌, map, Option, Some, None, Result, Ok, Err, refl, sym, ap, subst, rules, arith, if◌then◌else◌, list_all, All, AllByRecursion, join_with_byte, bytes_eq, and_parts, nat_tests, slice_split_at, slice_split_none, join_with_byte-slice_split, and_or_self, and_or_apart, bytes_eq-Decides, pieces_at, row_of, Cause, SetOf, IsAmong, AreNamesOf, bits_of, IsSetOf, rows_of, with_bit, set_in, set_from}
+use Rattle.line_forms.proofs.Vocabulary.{ℕ, ◌≡◌, ◌≢◌, ◌∙◌, ◌<◌, ◌==◌, ◌||◌, inl, inr, not, bit_and, bit_or, eqb, Bool, true, false, List, [], ◌∷◌, map, Option, Some, None, Result, Ok, Err, refl, sym, ap, subst, cond_both, rules, arith, if◌then◌else◌, list_all, All, AllByRecursion, join_with_byte, bytes_eq, and_parts, nat_tests, slice_split_at, slice_split_none, join_with_byte-slice_split, and_or_self, and_or_apart, bytes_eq-Decides, pieces_at, row_of, Cause, SetOf, IsAmong, AreNamesOf, bits_of, IsSetOf, rows_of, with_bit, set_in, set_from}
 use Rattle.line_forms.specs.declared.cause.Cause.TheVariants as cause
 use Rattle.line_forms.specs.declared.sets.SetOf.TheVariants as set
 use Rattle.line_forms.proofs.PlainWords.{apart_from}
@@ -23,22 +23,16 @@ Rows = List (List ℕ × ℕ)
 row_among : (rows : Rows) (w : List ℕ) (b : ℕ) → row_of rows w ≡ Some b → IsAmong (w, b) rows
 unfolding row_of
 row_among [] w b e = cc
-row_among (row ∷ rows) w b e = by_test (bytes_eq w row.0) refl (λ found. row_among rows w b found) e
-  where
-    by_test : (t : Bool) → bytes_eq w row.0 ≡ t → (row_of rows w ≡ Some b → IsAmong (w, b) rows) → (if t then Some row.1 else row_of rows w) ≡ Some b →
-        IsAmong (w, b) (row ∷ rows)
-    by_test true is more e =
-        let value : row.1 ≡ b = cc in
-        let name : w ≡ row.0 = (bytes_eq-Decides w row.0).0 is in
-        inl (rw (name, ← value) refl)
-    by_test false is more e = inr (more e)
+row_among (row ∷ rows) w b e =
+    cond_both (bytes_eq w row.0) (Some row.1) (row_of rows w) (λ o. o ≡ Some b → IsAmong (w, b) (row ∷ rows))
+    (λ is e. let value : row.1 ≡ b = cc in let name : w ≡ row.0 = (bytes_eq-Decides w row.0).0 is in inl (rw (name, ← value) refl))
+    (λ is e. inr (row_among rows w b e)) e
 
 -- each row is found by its name
 found : (k : SetOf) → AllByRecursion (λ (row : List ℕ × ℕ). row_of (rows_of k) row.0 ≡ Some row.1) (rows_of k)
 unfolding row_of
 found set.Sync = (refl, (refl, (refl, (refl, (refl, (refl, (refl, tt)))))))
-found set.Access = (refl, (refl, (refl, (refl, (refl, (refl, (refl, tt)))))))
-found set.State = (refl, (refl, (refl, (refl, (refl, (refl, (refl, tt)))))))
+found _ = (refl, (refl, (refl, (refl, (refl, (refl, (refl, tt)))))))
 
 -- two rows have one name, or no bit in common
 share_none : Rows → Bool
@@ -47,8 +41,7 @@ share_none rows = list_all (λ r. list_all (λ (q : List ℕ × ℕ). bytes_eq r
 none_shared : (k : SetOf) → share_none (rows_of k) ≡ true
 unfolding share_none
 none_shared set.Sync = refl
-none_shared set.Access = refl
-none_shared set.State = refl
+none_shared _ = refl
 
 rows_apart : (k : SetOf) (r q : List ℕ × ℕ) → IsAmong r (rows_of k) → IsAmong q (rows_of k) → r ≢ q → bit_and q.1 r.1 ≡ 0
 unfolding share_none
@@ -114,9 +107,8 @@ words_say k (w ∷ ws) s e = by_row (row_of (rows_of k) w) (set_in (rows_of k) w
 
     by_row : (one : Option ℕ) (more : Result ℕ Cause) → row_of (rows_of k) w ≡ one → ((t : ℕ) → more ≡ Ok t → AreWords k ws t) →
         set_in (rows_of k) ws ≡ more → with_bit one more ≡ Ok s → AreWords k (w ∷ ws) s
-    by_row None more is others same e = cc
-    by_row (Some b) (Err c) is others same e = cc
     by_row (Some b) (Ok t) is others same e = joins b t is (others t refl) (bit_and t b == 0) refl e
+    by_row _ _ is others same e = cc
 
 words_said : (k : SetOf) (names : Rows) → AreNamesOf (rows_of k) names → set_in (rows_of k) (map (λ r. r.0) names) ≡ Ok (bits_of names)
 unfolding set_in
@@ -132,8 +124,7 @@ is_no_bar b = not (b == 124)
 
 no_bars : (k : SetOf) → list_all (λ (r : List ℕ × ℕ). list_all is_no_bar r.0) (rows_of k) ≡ true
 no_bars set.Sync = refl
-no_bars set.Access = refl
-no_bars set.State = refl
+no_bars _ = refl
 
 bar_free : (k : SetOf) (r : List ℕ × ℕ) → IsAmong r (rows_of k) → All (λ b. eqb b 124 ≡ false) r.0
 bar_free k r row =
@@ -148,27 +139,22 @@ names_cut k r (q ∷ names) are =
     slice_split_at (λ b. eqb b 124) r.0 124 (join_with_byte 124 (map (λ p. p.0) (q ∷ names))) (bar_free k r are.0) refl
     ∙ ap (λ more. r.0 ∷ more) (names_cut k q names are.2)
 
--- a word has a piece
-never : (ws : List (List ℕ)) → is_some_list ws ≡ true → ws ≡ [] → ⊥
-unfolding is_some_list
-never [] some none = cc
-never (w ∷ ws) some none = cc
-
 -- a word that is read as a set is one
 pub set_says : (k : SetOf) (w : List ℕ) (s : ℕ) → set_from (rows_of k) w ≡ Ok s → IsSetOf (rows_of k) s w
-unfolding set_from
+unfolding set_from is_some_list
 set_says k w s e =
     let all = words_say k (pieces_at 124 w) s e in
     record {
       names = all.names;
-      some = λ none. no_pieces (ap (map (λ (r : List ℕ × ℕ). r.0)) (sym none) ∙ all.words);
+      some = λ none. never (pieces_at 124 w) (some_pieces w) (sym (ap (map (λ (r : List ℕ × ℕ). r.0)) (sym none) ∙ all.words));
       are = all.are;
       text = sym (ap (join_with_byte 124) all.words ∙ join_with_byte-slice_split 124 w);
       bits = all.bits_are;
     }
   where
-    no_pieces : [] ≡ pieces_at 124 w → ⊥
-    no_pieces e = never (pieces_at 124 w) (some_pieces w) (sym e)
+    never : (ws : List (List ℕ)) → is_some_list ws ≡ true → ws ≡ [] → ⊥
+    never [] some none = cc
+    never _ some none = cc
 
 -- and the other way round
 pub set_said : (k : SetOf) (w : List ℕ) (s : ℕ) → IsSetOf (rows_of k) s w → set_from (rows_of k) w ≡ Ok s
@@ -186,11 +172,8 @@ set_said k w s h =
 bit_form : (one : Option ℕ) (more : Result ℕ Cause) (c : Cause) → ((d : Cause) → more ≡ Err d → d ≡ cause.Form) → with_bit one more ≡ Err c → c ≡ cause.Form
 bit_form None more c others e = cc
 bit_form (Some b) (Err d) c others e = let same : d ≡ c = cc in sym same ∙ others d refl
-bit_form (Some b) (Ok t) c others e = by_test (bit_and t b == 0) e
-  where
-    by_test : (test : Bool) → (if test then Ok (bit_or t b) else Err cause.Form) ≡ Err c → c ≡ cause.Form
-    by_test true e = cc
-    by_test false e = cc
+bit_form (Some b) (Ok t) c others e =
+    cond_both (bit_and t b == 0) (Ok (bit_or t b)) (Err cause.Form) (λ r. r ≡ Err c → c ≡ cause.Form) (λ is e. cc) (λ is e. cc) e
 
 all_form : (rows : Rows) (ws : List (List ℕ)) (c : Cause) → set_in rows ws ≡ Err c → c ≡ cause.Form
 unfolding set_in

@@ -3,7 +3,7 @@ use Rattle.line_forms.proofs.Vocabulary.{ℕ, suc, ◌≡◌, ◌∙◌, ◌+◌
 use Rattle.line_forms.specs.declared.choice.Choices.TheVariants as choices
 use Rattle.line_forms.specs.declared.sets.SetOf.TheVariants as set
 use Rattle.line_forms.proofs.Good.{is_kept, line_kept, reads_again}
-use Rattle.line_forms.proofs.Grammar.{grammar, part_says, rest_say}
+use Rattle.line_forms.proofs.Grammar.{part_tells, rest_tells}
 use Rattle.line_forms.proofs.PlainWords.{is_plain_word, ArePlain, plain_word, name_plain, digits_plain, hex_plain, line_of, long, line_long, long_append}
 use Rattle.line_forms.proofs.SetsBack.{below, each_below, set_fits}
 use Rattle.line_forms.proofs.SetsSay.{among_pass, set_said}
@@ -12,28 +12,17 @@ use Rattle.line_forms.proofs.WordsBack.{length_hex, all_hex, decimal_spelled}
 -- how long the word of a part is at most
 abbrev pub bound : Place → ℕ
 bound (Word t) = length t
-bound (Name k) = 32
-bound NewName = 32
 bound Number = 20
 bound DataWord = 8
 bound FlagWord = 8
 bound (Set s) = 128
-bound (Choice c) = 32
-bound (AllOr k) = 32
 bound AllOrNumber = 20
+bound _ = 32
 
 -- the words that stand as they are, are plain
 abbrev pub is_plain_part : Place → Bool
 is_plain_part (Word t) = is_plain_word t
-is_plain_part (Name k) = true
-is_plain_part NewName = true
-is_plain_part Number = true
-is_plain_part DataWord = true
-is_plain_part FlagWord = true
-is_plain_part (Set s) = true
-is_plain_part (Choice c) = true
-is_plain_part (AllOr k) = true
-is_plain_part AllOrNumber = true
+is_plain_part _ = true
 
 -- a word that is plain and not too long
 abbrev pub is_short_word : ℕ → List ℕ → Bool
@@ -54,8 +43,7 @@ is_short_set k s = is_short_word 128 (set_text (rows_of k) (s + 1) false)
 all_short : (k : SetOf) → list_all (is_short_set k) (below 127) ≡ true
 unfolding below is_short_set set_text
 all_short set.Sync = refl
-all_short set.Access = refl
-all_short set.State = refl
+all_short _ = refl
 
 set_short : (k : SetOf) (s : ℕ) → 0 < s → s < 128 → IsShortWord 128 (set_text (rows_of k) s false)
 unfolding is_short_set
@@ -67,13 +55,7 @@ set_short k s some small =
 -- the words of choices
 choices_short : (k : Choices) → list_all (λ c. is_short_word 32 (choice_text c)) (choices_of k) ≡ true
 choices_short choices.Type = refl
-choices_short choices.Home = refl
-choices_short choices.Layout = refl
-choices_short choices.Class = refl
-choices_short choices.Shared = refl
-choices_short choices.Visible = refl
-choices_short choices.Version = refl
-choices_short choices.Routine = refl
+choices_short _ = refl
 
 -- a number is short
 number_short : (w : List ℕ) (i : ℕ) → IsDecimal i w → IsShortWord 20 w
@@ -117,23 +99,21 @@ module _ (n : Naming) (known : Known) (names : AreShortNames n) where
   said_short AllOrNumber v w lit is (inr h) = number_short w h.1.0 h.1.1
 
   part_short : (p : Place) (v : PartValue) → is_plain_part p ≡ true → read_part n p (part_text known p v) ≡ Ok v → IsShortWord (bound p) (part_text known p v)
-  part_short p v lit e = said_short p v (part_text known p v) lit refl (part_says n p (part_text known p v) v e)
+  part_short p v lit e = said_short p v (part_text known p v) lit refl ((part_tells n p (part_text known p v)).says v e)
 
   parts_plain : (ps : List Place) (vs : List PartValue) → list_all is_plain_part ps ≡ true → AllGood n known ps vs → ArePlain (part_texts known ps vs)
   unfolding part_texts
   parts_plain [] [] lit good = tt
-  parts_plain [] (v ∷ vs) lit good = absurd good
-  parts_plain (p ∷ ps) [] lit good = absurd good
   parts_plain (p ∷ ps) (v ∷ vs) lit good =
       let both = and_parts (is_plain_part p) (list_all is_plain_part ps) lit in
       (plain_word (part_text known p v) (part_short p v both.0 good.0.reads).plain, parts_plain ps vs both.1 good.1)
+  parts_plain _ _ lit good = absurd good
 
   -- words up to the end of a line
   each_plain : (k : Kind) (xs : List ℕ) (ws : List (List ℕ)) → SayEach (λ i w. n.number k w ≡ Ok i) xs ws → ArePlain ws
   each_plain k [] [] h = tt
-  each_plain k [] (w ∷ ws) h = absurd h
-  each_plain k (x ∷ xs) [] h = absurd h
   each_plain k (x ∷ xs) (w ∷ ws) h = (plain_word w (name_plain w (names.things k w x h.0).0), each_plain k xs ws h.1)
+  each_plain k _ _ h = absurd h
 
   hexes_plain : (xs : List ℕ) → ArePlain (map hex_word xs)
   unfolding hex_word
@@ -143,7 +123,7 @@ module _ (n : Naming) (known : Known) (names : AreShortNames n) where
   rest_plain : (r : Rest) (xs : List ℕ) → read_rest n r (rest_texts known r xs) ≡ Ok xs → ArePlain (rest_texts known r xs)
   unfolding read_rest rest_texts
   rest_plain Nothing xs e = tt
-  rest_plain (Names k) xs e = each_plain k xs (map (known k) xs) (rest_say n (Names k) xs (map (known k) xs) e)
+  rest_plain (Names k) xs e = each_plain k xs (map (known k) xs) ((rest_tells n (Names k) (map (known k) xs)).says xs e)
   rest_plain Words xs e = hexes_plain xs
 
   -- the words of a good line are plain
@@ -174,11 +154,10 @@ module _ (n : Naming) (known : Known) (names : AreShortNames n) where
   parts_long : (ps : List Place) (vs : List PartValue) → list_all is_plain_part ps ≡ true → AllGood n known ps vs → long (part_texts known ps vs) ≤ bounds ps
   unfolding part_texts
   parts_long [] [] lit good = omega arith
-  parts_long [] (v ∷ vs) lit good = absurd good
-  parts_long (p ∷ ps) [] lit good = absurd good
   parts_long (p ∷ ps) (v ∷ vs) lit good =
       let both = and_parts (is_plain_part p) (list_all is_plain_part ps) lit in
       omega (arith, (part_short n known names p v both.0 good.0.reads).short, parts_long ps vs both.1 good.1)
+  parts_long _ _ lit good = absurd good
 
   hexes_long : (xs : List ℕ) → long (map hex_word xs) ≡ 9 * length xs
   unfolding hex_word
@@ -192,7 +171,7 @@ module _ (n : Naming) (known : Known) (names : AreShortNames n) where
   bounded_short row line lit few good =
       by_long (line_words known row line)
       (by_rest row.rest line.rest (part_texts known row.parts line.values) (bounds row.parts) (parts_long row.parts line.values lit good.values) few
-      (rest_say n row.rest line.rest (rest_texts known row.rest line.rest) good.rest))
+      ((rest_tells n row.rest (rest_texts known row.rest line.rest)).says line.rest good.rest))
     where
       by_long : (us : List (List ℕ)) → long us ≤ 4097 → length (line_of us) ≤ 4096
       by_long [] h = lit≤ tt

@@ -1,14 +1,14 @@
 -- What is read passes the tests of its parts, and what passes them is read of its own words.
-use Rattle.line_forms.proofs.Vocabulary.{ℕ, ◌≡◌, ◌≢◌, ◌∙◌, ◌+◌, ◌<◌, ◌^◌, ◌&&◌, inl, inr, not, nat_le, nat_lt, Bool, true, false, List, [], ◌∷◌, ◌++◌, length, map, drop, decimal, Option, None, Some, Ok, refl, sym, ap, subst, add-one, arith, list_all, bytes_eq, and_parts, and_from, lt-ltb, le-leb, ltb-true, list_all-append, bytes_eq-Decides, is_number, Line, Kind, PartValue, Rest, Nothing, Names, Words, wrapped, two_of, choices_of, chosen, choice_text, shaped, shaped_from, shaped_rest, shaped_line, AllGood, IsGoodLine, AreNamed, Place, Word, Name, NewName, Number, DataWord, FlagWord, Set, Choice, AllOr, AllOrNumber, Row, Known, part_text, rest_texts, Naming, or_form, all_text, number_of, all_or_of, read_part, each_of, read_rest, read_row, IsHexadecimal, Says, SayAll, SayEach, SayRest, id_in, name_in, number_in, word_in, choice_in, all_or_in, all_or_number_in, value_at}
+use Rattle.line_forms.proofs.Vocabulary.{ℕ, ◌≡◌, ◌≢◌, ◌∙◌, ◌+◌, ◌<◌, ◌^◌, ◌&&◌, inl, inr, not, nat_le, nat_lt, Bool, true, false, List, [], ◌∷◌, ◌++◌, length, map, drop, decimal, Option, None, Some, Ok, refl, sym, ap, subst, add-one, arith, list_all, bytes_eq, and_parts, and_from, lt-ltb, le-leb, ltb-true, list_all-append, bytes_eq-Decides, false_from_ne_true, is_number, Line, Kind, PartValue, Rest, Nothing, Names, Words, wrapped, two_of, choices_of, chosen, choice_text, shaped, shaped_from, shaped_rest, shaped_line, AllGood, IsGoodLine, AreNamed, Place, Word, Name, NewName, Number, DataWord, FlagWord, Set, Choice, AllOr, AllOrNumber, Row, Known, part_text, rest_texts, Naming, or_form, all_text, number_of, all_or_of, read_part, each_of, read_rest, read_row, IsHexadecimal, Says, SayAll, SayEach, SayRest, id_in, name_in, number_in, word_in, choice_in, all_or_in, all_or_number_in, value_at}
 use Rattle.line_forms.specs.declared.part.PartValue.TheVariants as value
 use Rattle.line_forms.specs.Sound.{all_of, of_some, sound_tests, sound_rest, named_tests, named_rest, all_tests, is_sound_line, is_named_line}
 use Rattle.line_forms.specs.Values.{set_in}
 use Rattle.line_forms.proofs.ChoicesBack.{as_own}
-use Rattle.line_forms.proofs.Good.{value_there, each_small, words_again}
-use Rattle.line_forms.proofs.Grammar.{grammar, hex_said, not_all, part_said}
+use Rattle.line_forms.proofs.Good.{value_there, each_small, hex_small, words_again}
+use Rattle.line_forms.proofs.Grammar.{grammar, not_same, part_tells}
 use Rattle.line_forms.proofs.SetsBack.{set_back, set_fits}
 use Rattle.line_forms.proofs.SetsSay.{set_said}
-use Rattle.line_forms.proofs.WordsBack.{number_back, word_back, word_small, flag_back}
+use Rattle.line_forms.proofs.WordsBack.{number_back, word_back, flag_back}
 
 -- each of some tests is passed
 abbrev pub pass : List Bool → Bool
@@ -40,11 +40,7 @@ pass_one b h = (and_parts b true h).0
 
 -- words that differ
 other_words : (a b : List ℕ) → a ≢ b → not (bytes_eq a b) ≡ true
-other_words a b apart = by_test (bytes_eq a b) refl
-  where
-    by_test : (t : Bool) → bytes_eq a b ≡ t → not t ≡ true
-    by_test true is = absurd (apart ((bytes_eq-Decides a b).0 is))
-    by_test false is = refl
+other_words a b apart = ap not (false_from_ne_true (bytes_eq a b) (λ is. apart ((bytes_eq-Decides a b).0 is)))
 
 not_true : (t : Bool) → not t ≡ true → t ≡ false
 not_true true h = cc
@@ -56,41 +52,35 @@ module _ (n : Naming) where
     parts_pass : (ps : List Place) (vs : List PartValue) (ws : List (List ℕ)) (more : List Bool) → SayAll n ps vs ws → pass more ≡ true →
         pass (all_tests test ps vs more) ≡ true
     parts_pass [] [] ws more h m = m
-    parts_pass [] (v ∷ vs) ws more h m = absurd h
     parts_pass (p ∷ ps) vs [] more h m = absurd h
-    parts_pass (p ∷ ps) [] (w ∷ ws) more h m = absurd h
     parts_pass (p ∷ ps) (v ∷ vs) (w ∷ ws) more h m = pass_join (test p v) (all_tests test ps vs more) (passes p w v h.0) (parts_pass ps vs ws more h.1 m)
+    parts_pass _ _ _ more h m = absurd h
 
     line_passes : (row : Row) (ws : List (List ℕ)) (line : Line) (more : List Bool) → pass more ≡ true → read_row n row ws ≡ Ok line →
         pass (all_tests test row.parts line.values more) ≡ true
     line_passes row ws line more m e = parts_pass row.parts line.values ws more (grammar.says n row line ws e).values m
 
   hex_pass : (w : List ℕ) (i : ℕ) → IsHexadecimal i w → pass (nat_lt i (2 ^ 32) ∷ []) ≡ true
-  hex_pass w i h = one_pass (nat_lt i (2 ^ 32)) (lt-ltb i (2 ^ 32) (word_small w i (hex_said w i h)))
+  hex_pass w i h = one_pass (nat_lt i (2 ^ 32)) (lt-ltb i (2 ^ 32) (hex_small w i h))
 
   sound_part : (p : Place) (w : List ℕ) (v : PartValue) → Says n p v w → pass (sound_tests p v) ≡ true
-  sound_part (Word t) w v h = refl
-  sound_part (Name k) w v h = refl
-  sound_part NewName w v h = refl
   sound_part Number w v h = rw (h.2) (one_pass (nat_lt h.0 (2 ^ 64)) (lt-ltb h.0 (2 ^ 64) h.1.0))
   sound_part DataWord w v h = rw (h.2) (hex_pass w h.0 h.1)
   sound_part FlagWord w v h = rw (h.2) (hex_pass w h.0 h.1)
   sound_part (Set s) w v h =
       let fit = set_fits s w h.0 (set_said s w h.0 h.1) in
       rw (h.2) (and_from (nat_lt 0 h.0) (nat_lt h.0 128 && true) (lt-ltb 0 h.0 fit.0) (one_pass (nat_lt h.0 128) (lt-ltb h.0 128 fit.1)))
-  sound_part (Choice c) w v h = refl
-  sound_part (AllOr k) w v h = refl
   sound_part AllOrNumber w v (inl h) = rw (h.1) refl
   sound_part AllOrNumber w v (inr h) = rw (h.1.2) (one_pass (nat_lt h.1.0 (2 ^ 64)) (lt-ltb h.1.0 (2 ^ 64) h.1.1.0))
+  sound_part _ w v h = refl
 
   rest_sound : (r : Rest) (xs : List ℕ) (ws : List (List ℕ)) → SayRest n r xs ws → pass (sound_rest r xs) ≡ true
-  rest_sound Nothing xs ws h = refl
-  rest_sound (Names k) xs ws h = refl
   rest_sound Words xs ws h =
       let all = each_small xs ws h.2 in
       and_from (nat_le 1 (length xs)) (nat_le (length xs) 256 && (list_all (λ x. nat_lt x (2 ^ 32)) xs && true)) (le-leb 1 (length xs) (omega (arith, all.0, h.0)))
       (and_from (nat_le (length xs) 256) (list_all (λ x. nat_lt x (2 ^ 32)) xs && true) (le-leb (length xs) 256 (omega (arith, all.0, h.1)))
       (one_pass (list_all (λ x. nat_lt x (2 ^ 32)) xs) all.1))
+  rest_sound _ xs ws h = refl
 
   -- what is read is sound
   pub sound_read : (row : Row) (ws : List (List ℕ)) (line : Line) → read_row n row ws ≡ Ok line → is_sound_line row line ≡ true
@@ -102,14 +92,7 @@ module _ (n : Naming) where
   -- what is read names things
   module _ (counts : Kind → ℕ) (known : Known) (named : AreNamed n known) (below : (k : Kind) (w : List ℕ) (i : ℕ) → n.number k w ≡ Ok i → nat_lt i (counts k) ≡ true) where
     named_part : (p : Place) (w : List ℕ) (v : PartValue) → Says n p v w → pass (named_tests counts known p v) ≡ true
-    named_part (Word t) w v h = refl
     named_part (Name k) w v h = rw (h.2) (one_pass (nat_lt h.0 (counts k)) (below k w h.0 h.1))
-    named_part NewName w v h = refl
-    named_part Number w v h = refl
-    named_part DataWord w v h = refl
-    named_part FlagWord w v h = refl
-    named_part (Set s) w v h = refl
-    named_part (Choice c) w v h = refl
     named_part (AllOr k) w v (inl h) = rw (h.1) refl
     named_part (AllOr k) w v (inr h) =
         let i = h.1.0 in
@@ -118,19 +101,17 @@ module _ (n : Naming) where
         rw (h.1.2)
         (one_pass (nat_lt i (counts k) && not (bytes_eq (known k i) all_text))
         (and_from (nat_lt i (counts k)) (not (bytes_eq (known k i) all_text)) (below k w i h.1.1) other))
-    named_part AllOrNumber w v h = refl
+    named_part _ w v h = refl
 
     each_below : (k : Kind) (xs : List ℕ) (ws : List (List ℕ)) → SayEach (λ i w. n.number k w ≡ Ok i) xs ws → list_all (λ i. nat_lt i (counts k)) xs ≡ true
     each_below k [] [] h = refl
-    each_below k [] (w ∷ ws) h = absurd h
-    each_below k (x ∷ xs) [] h = absurd h
     each_below k (x ∷ xs) (w ∷ ws) h =
         and_from (nat_lt x (counts k)) (list_all (λ i. nat_lt i (counts k)) xs) (below k w x h.0) (each_below k xs ws h.1)
+    each_below k _ _ h = absurd h
 
     rest_named : (r : Rest) (xs : List ℕ) (ws : List (List ℕ)) → SayRest n r xs ws → pass (named_rest counts r xs) ≡ true
-    rest_named Nothing xs ws h = refl
     rest_named (Names k) xs ws h = one_pass (list_all (λ i. nat_lt i (counts k)) xs) (each_below k xs ws h)
-    rest_named Words xs ws h = refl
+    rest_named _ xs ws h = refl
 
     pub named_read : (row : Row) (ws : List (List ℕ)) (line : Line) → read_row n row ws ≡ Ok line → is_named_line counts known row line ≡ true
     named_read row ws line e =
@@ -140,30 +121,14 @@ module _ (n : Naming) where
 
 -- the test of a new name
 abbrev pub new_tests : (List ℕ → Bool) → Place → PartValue → List Bool
-new_tests new (Word t) v = []
-new_tests new (Name k) v = []
 new_tests new NewName v = new (name_in v) ∷ []
-new_tests new Number v = []
-new_tests new DataWord v = []
-new_tests new FlagWord v = []
-new_tests new (Set s) v = []
-new_tests new (Choice c) v = []
-new_tests new (AllOr k) v = []
-new_tests new AllOrNumber v = []
+new_tests new _ v = []
 
 -- what is read declares new names
 module _ (n : Naming) (new : List ℕ → Bool) (fresh : (w m : List ℕ) → n.fresh w ≡ Ok m → new m ≡ true) where
   new_part : (p : Place) (w : List ℕ) (v : PartValue) → Says n p v w → pass (new_tests new p v) ≡ true
-  new_part (Word t) w v h = refl
-  new_part (Name k) w v h = refl
   new_part NewName w v h = rw (h.2) (one_pass (new h.0) (fresh w h.0 h.1))
-  new_part Number w v h = refl
-  new_part DataWord w v h = refl
-  new_part FlagWord w v h = refl
-  new_part (Set s) w v h = refl
-  new_part (Choice c) w v h = refl
-  new_part (AllOr k) w v h = refl
-  new_part AllOrNumber w v h = refl
+  new_part _ w v h = refl
 
   pub new_read : (row : Row) (ws : List (List ℕ)) (line : Line) → read_row n row ws ≡ Ok line → pass (all_tests (new_tests new) row.parts line.values []) ≡ true
   new_read row ws line e = line_passes n (new_tests new) new_part row ws line [] refl e
@@ -175,11 +140,9 @@ no_number i e = cc
 
 -- a number is not `all`
 no_all : (i : ℕ) → i < 2 ^ 64 → bytes_eq (decimal i) all_text ≡ false
-no_all i small = by_test (bytes_eq (decimal i) all_text) refl
-  where
-    by_test : (t : Bool) → bytes_eq (decimal i) all_text ≡ t → t ≡ false
-    by_test true is = absurd (no_number i (subst (λ w. number_of w ≡ Ok i) ((bytes_eq-Decides (decimal i) all_text).0 is) (number_back i small)))
-    by_test false is = refl
+no_all i small =
+    false_from_ne_true (bytes_eq (decimal i) all_text)
+    (λ is. no_number i (subst (λ w. number_of w ≡ Ok i) ((bytes_eq-Decides (decimal i) all_text).0 is) (number_back i small)))
 
 -- what passes the tests is read of its own words
 module _ (n : Naming) (known : Known) (counts : Kind → ℕ) (new : List ℕ → Bool)
@@ -190,7 +153,7 @@ module _ (n : Naming) (known : Known) (counts : Kind → ℕ) (new : List ℕ �
 
   part_from : (p : Place) (v : PartValue) → shaped p v ≡ v → pass (sound_tests p v) ≡ true → pass (named_tests counts known p v) ≡ true →
       pass (new_tests new p v) ≡ true → read_part n p (part_text known p v) ≡ Ok v
-  part_from (Word t) v is s m f = part_said n (Word t) t v (refl, sym is)
+  part_from (Word t) v is s m f = (part_tells n (Word t) t).said v (refl, sym is)
   part_from (Name k) v is s m f =
       ap (wrapped value.Id) (called k (id_in v) (pass_one (nat_lt (id_in v) (counts k)) m)) ∙ ap Ok is
   part_from NewName v is s m f = ap (wrapped value.NewName) (fresh (name_in v) (pass_one (new (name_in v)) f)) ∙ ap Ok is
@@ -211,28 +174,26 @@ module _ (n : Naming) (known : Known) (counts : Kind → ℕ) (new : List ℕ �
     where
       by_case : (o : Option ℕ) → pass (of_some (λ i. nat_lt i (counts k) && not (bytes_eq (known k i) all_text)) o) ≡ true →
           all_or_of value.AllOr (n.number k) (part_text known (AllOr k) (value.AllOr o)) ≡ Ok (value.AllOr o)
-      by_case None h = part_said n (AllOr k) all_text (value.AllOr None) (inl (refl, refl))
+      by_case None h = (part_tells n (AllOr k) all_text).said (value.AllOr None) (inl (refl, refl))
       by_case (Some i) h =
           let both = and_parts (nat_lt i (counts k)) (not (bytes_eq (known k i) all_text))
           (pass_one (nat_lt i (counts k) && not (bytes_eq (known k i) all_text)) h) in
-          part_said n (AllOr k) (known k i) (value.AllOr (Some i))
-          (inr (not_all (known k i) (not_true (bytes_eq (known k i) all_text) both.1), (i, called k i both.0, refl)))
+          (part_tells n (AllOr k) (known k i)).said (value.AllOr (Some i))
+          (inr (not_same (known k i) all_text (not_true (bytes_eq (known k i) all_text) both.1), (i, called k i both.0, refl)))
   part_from AllOrNumber v is s m f =
       subst (λ x. all_or_of value.AllOrNumber number_of (part_text known AllOrNumber x) ≡ Ok x) is (by_case (all_or_number_in v) s)
     where
       by_case : (o : Option ℕ) → pass (of_some (λ i. nat_lt i (2 ^ 64)) o) ≡ true →
           all_or_of value.AllOrNumber number_of (part_text known AllOrNumber (value.AllOrNumber o)) ≡ Ok (value.AllOrNumber o)
-      by_case None h = part_said n AllOrNumber all_text (value.AllOrNumber None) (inl (refl, refl))
+      by_case None h = (part_tells n AllOrNumber all_text).said (value.AllOrNumber None) (inl (refl, refl))
       by_case (Some i) h =
           let small = ltb-true i (2 ^ 64) (pass_one (nat_lt i (2 ^ 64)) h) in
-          part_said n AllOrNumber (decimal i) (value.AllOrNumber (Some i)) (inr (not_all (decimal i) (no_all i small), (i, (small, refl), refl)))
+          (part_tells n AllOrNumber (decimal i)).said (value.AllOrNumber (Some i)) (inr (not_same (decimal i) all_text (no_all i small), (i, (small, refl), refl)))
 
   parts_from : (ps : List Place) (us vs : List PartValue) (i : ℕ) (xs ys zs : List Bool) → drop i vs ≡ us → shaped_from i ps vs ≡ us →
       pass (all_tests sound_tests ps us xs) ≡ true → pass (all_tests (named_tests counts known) ps us ys) ≡ true →
       pass (all_tests (new_tests new) ps us zs) ≡ true → AllGood n known ps us × (pass xs ≡ true) × (pass ys ≡ true)
   parts_from [] [] vs i xs ys zs e is s m f = (tt, s, m)
-  parts_from [] (u ∷ us) vs i xs ys zs e is s m f = cc
-  parts_from (p ∷ ps) [] vs i xs ys zs e is s m f = cc
   parts_from (p ∷ ps) (u ∷ us) vs i xs ys zs e is s m f =
       let there = value_there vs us u i e in
       let head : shaped p (value_at vs i) ≡ u = cc in
@@ -243,6 +204,7 @@ module _ (n : Naming) (known : Known) (counts : Kind → ℕ) (new : List ℕ �
       let fs = pass_split (new_tests new p u) (all_tests (new_tests new) ps us zs) f in
       let more = parts_from ps us vs (i + 1) xs ys zs (rw (add-one i) there.1) tail ss.1 ms.1 fs.1 in
       ((record { kind = own; reads = part_from p u own ss.0 ms.0 fs.0 }, more.0), more.1, more.2)
+  parts_from _ _ vs i xs ys zs e is s m f = cc
 
   each_from : (k : Kind) (xs : List ℕ) → list_all (λ i. nat_lt i (counts k)) xs ≡ true → each_of (n.number k) (map (known k) xs) ≡ Ok xs
   unfolding each_of two_of

@@ -1,5 +1,5 @@
 -- A printed word is read as what it was printed from.
-use Rattle.line_forms.proofs.Vocabulary.{ℕ, zero, suc, ◌≡◌, ◌∙◌, ◌++◌, ◌<◌, ◌==◌, not, nat_lt, get_or, decimal, subst, lit≤, ◌/◌, ◌%◌, ◌^◌, ◌&&◌, nat_le, Bool, true, false, List, [], ◌∷◌, length, Some, None, Ok, Err, refl, ap, arith, length-append, if◌then◌else◌, ◌≤◌, digit_char, is_ascii_digit, digit_value, list_all, list_all-append, digits_value, AllDigits, and_parts, and_from, le-leb, lt-ltb, leb-true, ltb-true, decimal_is_IsNumeral, decimal_digit, first_decimal, take_all, hex_fits, nat_tests, is_number, is_hex_digit, is_data_word, data_word_of, or_form, number_of, word_of, hex_from, hex_word, without_zeros, flag_word}
+use Rattle.line_forms.proofs.Vocabulary.{ℕ, zero, suc, ◌≡◌, ◌∙◌, ◌++◌, ◌<◌, ◌==◌, not, nat_lt, get_or, decimal, subst, lit≤, ◌/◌, ◌%◌, ◌^◌, ◌&&◌, nat_le, Bool, true, false, List, [], ◌∷◌, length, Some, None, Ok, Err, refl, ap, cond_both, arith, length-append, if◌then◌else◌, ◌≤◌, digit_char, is_ascii_digit, digit_value, list_all, list_all-append, digits_value, AllDigits, and_parts, and_from, le-leb, lt-ltb, leb-true, ltb-true, decimal_is_IsNumeral, decimal_digit, first_decimal, take_all, hex_fits, nat_tests, is_number, is_hex_digit, is_data_word, data_word_of, or_form, number_of, word_of, hex_from, hex_word, without_zeros, flag_word}
 use Rattle.std.proofs.lemmas.Int.Digits.{digits_value_push}
 use Rattle.std.proofs.lemmas.Str.{digit_value-digit_char}
 use Rattle.line_forms.specs.declared.cause.Cause.TheVariants as cause
@@ -39,18 +39,8 @@ pub word_back : (n : ℕ) → n < 2 ^ 32 → word_of (hex_word n) ≡ Ok n
 unfolding word_of data_word_of is_data_word hex_word
 word_back n small =
     let long : length (hex_from 8 n) ≡ 8 = length_hex 8 n in
-    let fit : (nat_le 1 (length (hex_from 8 n)) && (nat_le (length (hex_from 8 n)) 8 && list_all is_hex_digit (hex_from 8 n))) ≡ true =
-    and_from (nat_le 1 (length (hex_from 8 n))) (nat_le (length (hex_from 8 n)) 8 && list_all is_hex_digit (hex_from 8 n))
-    (le-leb 1 (length (hex_from 8 n)) (omega (arith, long)))
-    (and_from (nat_le (length (hex_from 8 n)) 8) (list_all is_hex_digit (hex_from 8 n)) (le-leb (length (hex_from 8 n)) 8 (omega (arith, long))) (all_hex 8 n)) in
-    by_test (nat_le 1 (length (hex_from 8 n)) && (nat_le (length (hex_from 8 n)) 8 && list_all is_hex_digit (hex_from 8 n))) fit
-  where
-    value : digits_value 16 (hex_from 8 n) ≡ n
-    value = hex_value 8 n (omega (arith, small))
-
-    by_test : (t : Bool) → t ≡ true → or_form (if t then Some (digits_value 16 (hex_from 8 n)) else None) ≡ Ok n
-    by_test true is = ap Ok value
-    by_test false is = cc
+    rw (le-leb 1 (length (hex_from 8 n)) (omega (arith, long)), le-leb (length (hex_from 8 n)) 8 (omega (arith, long)), all_hex 8 n)
+    (ap Ok (hex_value 8 n (omega (arith, small))))
 
 -- a digit by its value
 digit_is : (b : ℕ) → digit_value b < 10 → is_ascii_digit b ≡ true
@@ -87,47 +77,34 @@ number_back n small =
 -- a data word is below 2^32
 pub word_small : (w : List ℕ) (n : ℕ) → word_of w ≡ Ok n → n < 2 ^ 32
 unfolding word_of data_word_of is_data_word
-word_small w n e = spelled (nat_le 1 (length w) && (nat_le (length w) 8 && list_all is_hex_digit w)) refl e
-  where
-    spelled : (t : Bool) → (nat_le 1 (length w) && (nat_le (length w) 8 && list_all is_hex_digit w)) ≡ t →
-        or_form (if t then Some (digits_value 16 w) else None) ≡ Ok n → n < 2 ^ 32
-    spelled false s e = cc
-    spelled true s e =
-        let both = and_parts (nat_le 1 (length w)) (nat_le (length w) 8 && list_all is_hex_digit w) s in
-        let more = and_parts (nat_le (length w) 8) (list_all is_hex_digit w) both.1 in
-        let fits = hex_fits w (length w) more.1 (leb-true (length w) 8 more.0) in
-        let value : digits_value 16 w ≡ n = cc in
-        subst (λ m. m < 2 ^ 32) (ap (digits_value 16) (take_all (length w) w (omega arith)) ∙ value) fits
+word_small w n e =
+    cond_both (nat_le 1 (length w) && (nat_le (length w) 8 && list_all is_hex_digit w)) (Some (digits_value 16 w)) None (λ o. or_form o ≡ Ok n → n < 2 ^ 32)
+    (λ s e. let both = and_parts (nat_le 1 (length w)) (nat_le (length w) 8 && list_all is_hex_digit w) s in
+    let more = and_parts (nat_le (length w) 8) (list_all is_hex_digit w) both.1 in
+    let fits = hex_fits w (length w) more.1 (leb-true (length w) 8 more.0) in
+    let value : digits_value 16 w ≡ n = cc in
+    subst (λ m. m < 2 ^ 32) (ap (digits_value 16) (take_all (length w) w (omega arith)) ∙ value) fits)
+    (λ s e. cc) e
 
 -- leading zeros write nothing
 zeros_value : (ds : List ℕ) → digits_value 16 (without_zeros ds) ≡ digits_value 16 ds
 unfolding without_zeros
 zeros_value [] = refl
-zeros_value (b ∷ ds) = by_test (b == 48 && nat_lt 0 (length ds)) refl (zeros_value ds)
-  where
-    by_test : (t : Bool) → (b == 48 && nat_lt 0 (length ds)) ≡ t → digits_value 16 (without_zeros ds) ≡ digits_value 16 ds →
-        digits_value 16 (if t then without_zeros ds else b ∷ ds) ≡ digits_value 16 (b ∷ ds)
-    by_test true is more =
-        let zero_digit : b ≡ 48 = grind (arith, nat_tests, (and_parts (b == 48) (nat_lt 0 (length ds)) is).0) in rw zero_digit more
-    by_test false is more = refl
+zeros_value (b ∷ ds) =
+    cond_both (b == 48 && nat_lt 0 (length ds)) (without_zeros ds) (b ∷ ds) (λ xs. digits_value 16 xs ≡ digits_value 16 (b ∷ ds))
+    (λ is. let zero_digit : b ≡ 48 = grind (arith, nat_tests, (and_parts (b == 48) (nat_lt 0 (length ds)) is).0) in rw zero_digit (zeros_value ds)) (λ is. refl)
 
 -- what is left is no longer, not empty, and of the same digits
 zeros_fit : (ds : List ℕ) → list_all is_hex_digit ds ≡ true → 1 ≤ length ds →
     (1 ≤ length (without_zeros ds)) × (length (without_zeros ds) ≤ length ds) × (list_all is_hex_digit (without_zeros ds) ≡ true)
 unfolding without_zeros
 zeros_fit [] all some = absurd (omega (arith, some))
-zeros_fit (b ∷ ds) all some = by_test (b == 48 && nat_lt 0 (length ds)) refl (λ more long. zeros_fit ds more long)
-  where
-    by_test : (t : Bool) → (b == 48 && nat_lt 0 (length ds)) ≡ t →
-        (list_all is_hex_digit ds ≡ true → 1 ≤ length ds →
-        (1 ≤ length (without_zeros ds)) × (length (without_zeros ds) ≤ length ds) × (list_all is_hex_digit (without_zeros ds) ≡ true)) →
-        (1 ≤ length (if t then without_zeros ds else b ∷ ds)) × (length (if t then without_zeros ds else b ∷ ds) ≤ length (b ∷ ds))
-        × (list_all is_hex_digit (if t then without_zeros ds else b ∷ ds) ≡ true)
-    by_test true is fit =
-        let long : 0 < length ds = ltb-true 0 (length ds) (and_parts (b == 48) (nat_lt 0 (length ds)) is).1 in
-        let more = fit (and_parts (is_hex_digit b) (list_all is_hex_digit ds) all).1 long in
-        (more.0, omega (arith, more.1), more.2)
-    by_test false is fit = (omega arith, omega arith, all)
+zeros_fit (b ∷ ds) all some =
+    cond_both (b == 48 && nat_lt 0 (length ds)) (without_zeros ds) (b ∷ ds)
+    (λ xs. (1 ≤ length xs) × (length xs ≤ length (b ∷ ds)) × (list_all is_hex_digit xs ≡ true))
+    (λ is. let long : 0 < length ds = ltb-true 0 (length ds) (and_parts (b == 48) (nat_lt 0 (length ds)) is).1 in
+    let more = zeros_fit ds (and_parts (is_hex_digit b) (list_all is_hex_digit ds) all).1 long in (more.0, omega (arith, more.1), more.2))
+    (λ is. (omega arith, omega arith, all))
 
 -- a flag word is read as its number
 pub flag_back : (n : ℕ) → n < 2 ^ 32 → word_of (flag_word n) ≡ Ok n

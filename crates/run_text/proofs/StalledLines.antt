@@ -63,15 +63,7 @@ calls_counted t p (e ∷ h) = omega (arith, calls_counted t (progress_after t p 
 -- the call that begins a wait is a wait, refused or not
 wait_begins : (w : World) (d : Desk) (c : Call) → is_some (done w d.lists c).waits ≡ is_wait c
 wait_begins w d (call.Recording l what) = refl
-wait_begins w d (call.Close l) = refl
-wait_begins w d (call.Reset l a) = refl
-wait_begins w d (call.Execute q ls) = refl
-wait_begins w d (call.Signal q f v) = refl
-wait_begins w d (call.HostSignal f v) = refl
-wait_begins w d (call.HostWait f v) = refl
-wait_begins w d (call.Value f) = refl
-wait_begins w d (call.Write b offset ws) = refl
-wait_begins w d (call.Read b offset bytes) = refl
+wait_begins w d _ = refl
 
 abbrev waits_at : List Place → ℕ → Bool
 waits_at ps t = is_some (place_in ps t).waits
@@ -167,9 +159,8 @@ short_is made long few = grind (arith, nat_tests, few)
 
 or_swap : (a b : Bool) → (a || b) ≡ (b || a)
 or_swap true true = refl
-or_swap true false = refl
-or_swap false true = refl
 or_swap false false = refl
+or_swap _ _ = refl
 
 threads_tell : (w : World) (h : List Event) → IsRunButWords w h → (t : ℕ) → t < length w.scripts →
     is_unfinished_of w.scripts h t ≡ is_short_of (script_of w t) (place_of (state_after w h).desk t)
@@ -190,11 +181,7 @@ counted p (x ∷ xs) = cond (p x) (1 + counted p xs) (counted p xs)
 
 count_more : {A : Type 0} (p : A → Bool) (xs : List A) (x : A) → counted p (xs ++ x ∷ []) ≡ counted p xs + cond (p x) 1 0
 unfolding counted
-count_more p [] x = by_test (p x)
-  where
-    by_test : (b : Bool) → cond b 1 0 ≡ 0 + cond b 1 0
-    by_test true = refl
-    by_test false = refl
+count_more p [] x = omega arith
 count_more p (y ∷ xs) x = by_test (p y) (count_more p xs x)
   where
     by_test : (b : Bool) → counted p (xs ++ x ∷ []) ≡ counted p xs + cond (p x) 1 0 →
@@ -214,9 +201,7 @@ done_is (reply.Error e) same = absurd (cc)
 
 refused_is : (r : Reply) (e : Hresult) → SameButWords r (reply.Error e) → is_done r ≡ false
 refused_is reply.Done e same = absurd (cc)
-refused_is (reply.Value v) e same = refl
-refused_is (reply.Words ws) e same = refl
-refused_is (reply.Error d) e same = refl
+refused_is _ e same = refl
 
 -- a queue is given an operation where the call is on it and is done
 given_one : (lists : List Listed) (o : Option Hresult) (r : Reply) (x : Task) (k q : ℕ) → SameButWords r (reply_or o reply.Done) →
@@ -233,18 +218,9 @@ given_one lists (Some e) r x k q same = rw (refused_is r e same) (by_test (k == 
     by_test false = refl
 
 gives_step : (w : World) (s : State) (q : ℕ) (e : Event) → May SameButWords w s e → length (called_by w s.desk q e) ≡ cond (gives q e) 1 0
-gives_step w s q (event.Call t (call.Recording l what) r) may = refl
-gives_step w s q (event.Call t (call.Close l) r) may = refl
-gives_step w s q (event.Call t (call.Reset l a) r) may = refl
 gives_step w s q (event.Call t (call.Execute p ls) r) may = given_one s.desk.lists (refusal_by w s.desk.lists (call.Execute p ls)) r (executes ls) p.0 q may.2
 gives_step w s q (event.Call t (call.Signal p f v) r) may = given_one s.desk.lists None r (signals f v) p.0 q may.2
-gives_step w s q (event.Call t (call.HostSignal f v) r) may = refl
-gives_step w s q (event.Call t (call.HostWait f v) r) may = refl
-gives_step w s q (event.Call t (call.Value f) r) may = refl
-gives_step w s q (event.Call t (call.Write b offset ws) r) may = refl
-gives_step w s q (event.Call t (call.Read b offset bytes) r) may = refl
-gives_step w s q (event.Awake t) may = refl
-gives_step w s q (event.Queue p) may = refl
+gives_step w s q _ may = refl
 
 none_counted : (q : ℕ) → 0 ≡ counted (gives q) []
 unfolding counted
@@ -262,13 +238,12 @@ operations_counted w h run = run_induction (λ es. (q : ℕ) → length (operati
 completions_counted : (h : List Event) (q : ℕ) → counter h q ≡ counted (completes q) h
 unfolding counted
 completions_counted [] q = refl
-completions_counted (event.Call t c r ∷ h) q = omega (arith, completions_counted h q)
-completions_counted (event.Awake t ∷ h) q = omega (arith, completions_counted h q)
 completions_counted (event.Queue p ∷ h) q = by_test (p.0 == q) (completions_counted h q)
   where
     by_test : (b : Bool) → counter h q ≡ counted (completes q) h → (if b then 1 else 0) + counter h q ≡ cond b (1 + counted (completes q) h) (counted (completes q) h)
     by_test true more = omega (arith, more)
     by_test false more = omega (arith, more)
+completions_counted (_ ∷ h) q = omega (arith, completions_counted h q)
 
 behind_is : (n long : ℕ) → n ≤ long → nat_lt n long ≡ nat_lt 0 (long - n)
 behind_is n long few = grind (arith, nat_tests, few)

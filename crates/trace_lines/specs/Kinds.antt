@@ -33,19 +33,13 @@ is_refused_size n = n == 0 || (not (n % 4 == 0) || nat_lt 1048576 n)
 
 -- the creation of the object is refused
 abbrev pub is_refused : Declared → Bool
-is_refused (declared.Queue t) = false
-is_refused (declared.Fence v) = false
 is_refused (declared.Buffer h n) = is_refused_size n
-is_refused (declared.Allocator t) = false
-is_refused (declared.List t) = false
+is_refused _ = false
 
 -- the words of an object; one whose creation is refused has none
 abbrev pub words_of_object : Declared → ℕ
-words_of_object (declared.Queue t) = 0
-words_of_object (declared.Fence v) = 0
 words_of_object (declared.Buffer h n) = if is_refused_size n then 0 else n / 4
-words_of_object (declared.Allocator t) = 0
-words_of_object (declared.List t) = 0
+words_of_object _ = 0
 
 -- the words of all objects
 abbrev pub words_of_all : List Declared → ℕ

@@ -1,10 +1,15 @@
 //! The objects that lines declare.
 
-ghost use Rattle.std.specs.Prelude.{◌≡◌, ◌≤◌};
+ghost use Rattle.std.specs.Prelude.{◌≡◌, ◌≤◌, ◌++◌, OnOk};
+ghost use Rattle.trace_lines.specs.declared.item.Item.TheVariants.{Declares};
+ghost use Rattle.trace_lines.specs.Formed.{item_text};
 ghost use Rattle.trace_lines.specs.Kinds.{kind_of, is_refused_size, is_refused, words_of_object};
 
-use dx_base::{Home, ListType};
-use line_forms::Kind;
+use crate::form::Form;
+use crate::known::Known;
+use dx_base::{Home, ListType, Memory};
+use line_forms::{Choice, Kind, PartValue, put_line};
+use trace_words::Name;
 
 /// An object that a line declares, its parts in the order of the line.
 #[derive(Debug, PartialEq, Eq, Drop)]
@@ -72,6 +77,42 @@ impl Declared {
             | Declared::Fence { value: _ }
             | Declared::Allocator { kind: _ }
             | Declared::List { kind: _ } => 0,
+        }
+    }
+}
+
+/// Appends the line of an object.
+#[tactic(auto, unfolding(crate::specs::Formed::item_text))]
+pub fn put_object(
+    out: &mut Vec<u8>,
+    known: &Known<'_>,
+    name: &Name,
+    object: &Declared,
+) -> Result<(), Memory>
+    ensures { OnOk result (out.new.items ≡ out.old.items ++ item_text known.now (Declares name.now object.now)) }
+{
+    let (first, name) = (PartValue::AsItStands, PartValue::NewName(name.copied()));
+    match object {
+        Declared::Queue { kind } => {
+            let kind = PartValue::Chosen(Choice::Type(*kind));
+            put_line(out, known, Form::Queue, &[first, name, kind], &[])
+        }
+        Declared::Fence { value } => {
+            let value = PartValue::Number(*value);
+            put_line(out, known, Form::Fence, &[first, name, value], &[])
+        }
+        Declared::Buffer { home, bytes } => {
+            let home = PartValue::Chosen(Choice::Home(*home));
+            let values = [first, name, home, PartValue::Number(*bytes)];
+            put_line(out, known, Form::Buffer, &values, &[])
+        }
+        Declared::Allocator { kind } => {
+            let kind = PartValue::Chosen(Choice::Type(*kind));
+            put_line(out, known, Form::Allocator, &[first, name, kind], &[])
+        }
+        Declared::List { kind } => {
+            let kind = PartValue::Chosen(Choice::Type(*kind));
+            put_line(out, known, Form::List, &[first, name, kind], &[])
         }
     }
 }

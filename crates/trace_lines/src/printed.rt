@@ -1,14 +1,13 @@
-//! The lines of the header, of objects and of threads, and the last line, printed.
+//! The lines of the header and of threads, and the last line, printed.
 
 ghost use Rattle.std.specs.Prelude.{◌≡◌, ◌++◌, OnOk};
-ghost use Rattle.trace_lines.specs.declared.item.Item.TheVariants.{Header, Declares, Starts, Ends};
+ghost use Rattle.trace_lines.specs.declared.item.Item.TheVariants.{Header, Starts, Ends};
 ghost use Rattle.trace_lines.specs.Formed.{item_text};
 
 use crate::form::Form;
 use crate::known::Known;
-use crate::object::Declared;
 use dx_base::Memory;
-use line_forms::{Choice, PartValue, put_line};
+use line_forms::{PartValue, put_line};
 use trace_words::Name;
 
 /// Appends the first line.
@@ -45,40 +44,4 @@ pub fn put_start(out: &mut Vec<u8>, known: &Known<'_>, name: &Name) -> Result<()
         &[PartValue::AsItStands, PartValue::NewName(name.copied())],
         &[],
     )
-}
-
-/// Appends the line of an object.
-#[tactic(auto, unfolding(crate::specs::Formed::item_text))]
-pub fn put_object(
-    out: &mut Vec<u8>,
-    known: &Known<'_>,
-    name: &Name,
-    object: &Declared,
-) -> Result<(), Memory>
-    ensures { OnOk result (out.new.items ≡ out.old.items ++ item_text known.now (Declares name.now object.now)) }
-{
-    let (first, name) = (PartValue::AsItStands, PartValue::NewName(name.copied()));
-    match object {
-        Declared::Queue { kind } => {
-            let kind = PartValue::Chosen(Choice::Type(*kind));
-            put_line(out, known, Form::Queue, &[first, name, kind], &[])
-        }
-        Declared::Fence { value } => {
-            let value = PartValue::Number(*value);
-            put_line(out, known, Form::Fence, &[first, name, value], &[])
-        }
-        Declared::Buffer { home, bytes } => {
-            let home = PartValue::Chosen(Choice::Home(*home));
-            let values = [first, name, home, PartValue::Number(*bytes)];
-            put_line(out, known, Form::Buffer, &values, &[])
-        }
-        Declared::Allocator { kind } => {
-            let kind = PartValue::Chosen(Choice::Type(*kind));
-            put_line(out, known, Form::Allocator, &[first, name, kind], &[])
-        }
-        Declared::List { kind } => {
-            let kind = PartValue::Chosen(Choice::Type(*kind));
-            put_line(out, known, Form::List, &[first, name, kind], &[])
-        }
-    }
 }

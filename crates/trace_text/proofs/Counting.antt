@@ -10,20 +10,12 @@ use Rattle.trace_text.proofs.SoundValues.{count_push, few_more, within_limits}
 -- the number at a kind's place
 pub place_number : (f : Kind → ℕ) (k : Kind) → slice_index_or (map f kinds) (kind_code k) 0 ≡ f k
 place_number f kind.Queue = refl
-place_number f kind.Fence = refl
-place_number f kind.Resource = refl
-place_number f kind.Allocator = refl
-place_number f kind.List = refl
-place_number f kind.Thread = refl
+place_number f _ = refl
 
 -- one more at a kind's place
 place_more : (f : Kind → ℕ) (k : Kind) → slice_set (map f kinds) (kind_code k) (f k + 1) ≡ map (λ j. f j + (if same_kind j k then 1 else 0)) kinds
 place_more f kind.Queue = simp add-zero
-place_more f kind.Fence = simp add-zero
-place_more f kind.Resource = simp add-zero
-place_more f kind.Allocator = simp add-zero
-place_more f kind.List = simp add-zero
-place_more f kind.Thread = simp add-zero
+place_more f _ = simp add-zero
 
 -- one more object
 pub counts_push : (ds : List Declared) (d : Declared) →
@@ -40,11 +32,7 @@ number_there ds counts words k place is at = rw (is.counts_are, at) (place_numbe
 -- no kind has more than 4,096 objects
 few_all : (k : Kind) → most_of k ≤ 4096
 few_all kind.Queue = lit≤ tt
-few_all kind.Fence = lit≤ tt
-few_all kind.Resource = lit≤ tt
-few_all kind.Allocator = lit≤ tt
-few_all kind.List = lit≤ tt
-few_all kind.Thread = lit≤ tt
+few_all _ = lit≤ tt
 
 pub number_small : (ds : List Declared) (counts : List ℕ) (words : ℕ) (k : Kind) (place : ℕ) → IsCounted ds counts words → place ≡ kind_code k →
     slice_index_or counts place 0 ≤ 4096

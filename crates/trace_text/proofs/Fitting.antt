@@ -1,10 +1,10 @@
 -- A line is taken whose values, as they are printed, are read back.
-use Rattle.trace_text.proofs.Vocabulary.{ℕ, ◌≡◌, ◌<◌, ◌≤◌, ◌^◌, ◌==◌, ◌&&◌, ◌||◌, ◌∙◌, not, nat_le, nat_lt, Bool, true, false, List, [], ◌∷◌, ◌++◌, length, Some, None, Ok, refl, sym, ap, subst, arith, append_assoc, AllByRecursion, list_all, and_parts, and_from, leb-true, le-leb, ltb-true, nat_tests, Call, is_named, words_of, is_plain, is_plain_byte, is_name, is_letter, is_name_byte, Line, Kind, form_for, AllGood, IsGoodLine, shaped_from, shaped_line, rest_of_line, line_text, Place, Word, Name, NewName, Number, DataWord, FlagWord, Set, Choice, AllOr, AllOrNumber, Row, Known, part_texts, rest_texts, line_words, spaced, joined, text_of, Naming, read_row, is_sound_line, is_named_line, found_in, prints_back, line_of, line_is, line_again, IsPlainWord, ArePlain, words_again, are_words, plain_line, line_plain, line_short, pass, line_from, Class, Form, Item, Header, Declares, Starts, Calls, Ends, Declared, Reading, Formed, item_formed, item_words, item_text, form_row, forms, class_of, count_of, KnownNames, names_of_kind, known_names, known_of, name_at, is_later, is_second, is_misplaced, is_header, fault_of_place, is_over, with_item, object_named, naming_of, is_sound_object, is_sound_call, is_skipped, with_line, Names, same_kind, number_named, objects_of}
+use Rattle.trace_text.proofs.Vocabulary.{ℕ, ◌≡◌, ◌<◌, ◌≤◌, ◌^◌, ◌==◌, ◌&&◌, ◌||◌, ◌∙◌, not, nat_le, nat_lt, Bool, true, false, List, [], ◌∷◌, ◌++◌, length, Some, None, Ok, refl, sym, ap, subst, arith, append_assoc, AllByRecursion, list_all, and_parts, and_from, leb-true, le-leb, ltb-true, nat_tests, Call, is_named, words_of, is_plain, is_plain_byte, is_name, is_letter, is_name_byte, Line, Kind, form_for, AllGood, IsGoodLine, shaped_from, shaped_line, rest_of_line, line_text, Place, Word, Name, NewName, Number, DataWord, FlagWord, Set, Choice, AllOr, AllOrNumber, Row, Known, part_texts, rest_texts, line_words, spaced, joined, text_of, Naming, read_row, is_sound_line, is_named_line, prints_back, line_of, line_is, line_again, IsPlainWord, ArePlain, words_again, are_words, plain_line, line_plain, line_short, pass, line_from, Class, Form, Item, Header, Declares, Starts, Calls, Ends, Declared, Reading, Formed, item_formed, item_words, item_text, form_row, forms, class_of, count_of, KnownNames, names_of_kind, known_names, known_of, name_at, is_later, is_second, is_misplaced, is_header, fault_of_place, is_over, with_item, object_named, naming_of, is_sound_object, is_sound_call, is_skipped, with_line, Names, same_kind, number_named, objects_of}
 use Rattle.line_forms.specs.declared.kind.Kind.TheVariants as kind
 use Rattle.line_forms.specs.declared.part.PartValue.{PartValue}
 use Rattle.trace_text.proofs.NamesBack.{AreNamed}
 use Rattle.trace_text.proofs.Naming.{names_in}
-use Rattle.trace_text.proofs.Own.{item_news, item_class, is_call, own, own_line, counts_in, forms_apart, is_spoken, fine}
+use Rattle.trace_text.proofs.Own.{item_news, item_class, is_call, own, own_line, counts_in, is_spoken, fine}
 use Rattle.trace_text.proofs.Says.{is_new, new_back, number_back}
 use Rattle.trace_text.proofs.Sound.{IsKept, known_in, counts_are, are_called, short_names}
 use Rattle.trace_text.proofs.Taking.{Takes, TakesWords, item_reads, item_read_back, taken_line}
@@ -50,18 +50,9 @@ record Begins (ws : List (List ℕ)) : Type 0 where
 begins : (n : Naming) (known : Known) (ps : List Place) (vs : List PartValue) (us : List (List ℕ)) → is_spoken ps ≡ true → AllGood n known ps vs →
     Begins (part_texts known ps vs ++ us)
 unfolding part_texts
-begins n known [] vs us is good = cc
 begins n known (p ∷ ps) [] us is good = absurd good
 begins n known (Word t ∷ ps) (v ∷ vs) us is good = record { some = omega arith; spoken = spoken_line t (part_texts known ps vs ++ us) is }
-begins n known (Name k ∷ ps) (v ∷ vs) us is good = cc
-begins n known (NewName ∷ ps) (v ∷ vs) us is good = cc
-begins n known (Number ∷ ps) (v ∷ vs) us is good = cc
-begins n known (DataWord ∷ ps) (v ∷ vs) us is good = cc
-begins n known (FlagWord ∷ ps) (v ∷ vs) us is good = cc
-begins n known (Set s ∷ ps) (v ∷ vs) us is good = cc
-begins n known (Choice c ∷ ps) (v ∷ vs) us is good = cc
-begins n known (AllOr k ∷ ps) (v ∷ vs) us is good = cc
-begins n known (AllOrNumber ∷ ps) (v ∷ vs) us is good = cc
+begins n known _ _ us is good = cc
 
 item_begins : (names : Names) (known : KnownNames) (i : Item) →
     IsGoodLine (naming_of names) (known_of known) (form_row (item_formed i).form) (item_formed i).line → Begins (item_words known i)
@@ -69,15 +60,6 @@ unfolding line_words
 item_begins names known i good =
     begins (naming_of names) (known_of known) (form_row (item_formed i).form).parts (item_formed i).line.values
     (rest_texts (known_of known) (form_row (item_formed i).form).rest (item_formed i).line.rest) (fine i).spoken good.values
-
--- its form is found
-item_found : (names : Names) (known : KnownNames) (i : Item) →
-    IsGoodLine (naming_of names) (known_of known) (form_row (item_formed i).form) (item_formed i).line →
-    form_for form_row forms (item_words known i) ≡ Some (item_formed i).form
-unfolding line_words
-item_found names known i good =
-    found_in (naming_of names) (known_of known) form_row forms (own i).place.0 (item_formed i).form (item_formed i).line.values (item_formed i).line.rest
-    forms_apart (own i).place.1 good.values
 
 -- a line of words is cut into them
 words_back : (ws : List (List ℕ)) → 0 < length ws → ArePlain ws → words_of (line_of ws) ≡ ws
@@ -112,7 +94,7 @@ item_taken r known i fits short =
         form = (item_formed i).form;
         item = i;
         in_time = fits.timely;
-        found = item_found r.names known i fits.good;
+        found = (own i).found known;
         in_place = subst (λ c. fault_of_place r c ≡ None) (sym (own i).class_is) fits.place;
         means = item_read_back r.names (item_words known i) i reads;
         within = fits.within;
@@ -143,12 +125,9 @@ called_object r ss named k i apart h =
 called : (r : Reading) (ss : List (List Call)) → AreNamed r.names r.declared → (k : Kind) (i : ℕ) →
     nat_lt i (counts_in (record (objects_of r.declared) { scripts = ss }) k) ≡ true →
     object_named r.names k (known_of (known_in r) k i) ≡ Ok i
-called r ss named kind.Queue i h = called_object r ss named kind.Queue i refl h
-called r ss named kind.Fence i h = called_object r ss named kind.Fence i refl h
-called r ss named kind.Resource i h = called_object r ss named kind.Resource i refl h
-called r ss named kind.Allocator i h = called_object r ss named kind.Allocator i refl h
-called r ss named kind.List i h = called_object r ss named kind.List i refl h
 called r ss named kind.Thread i h = absurd (omega (arith, ltb-true i 0 h))
+called r ss named kind.Queue i h = called_object r ss named kind.Queue i refl h
+called r ss named k i h = called_object r ss named k i refl h
 
 -- an item's values are of their parts' kinds
 item_shaped : (i : Item) → shaped_line (form_row (item_formed i).form) (item_formed i).line ≡ (item_formed i).line

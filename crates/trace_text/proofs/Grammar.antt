@@ -1,7 +1,7 @@
 -- What is read of a text, and the lines of the text.
 use Rattle.trace_text.proofs.Vocabulary.{ℕ, ◌≡◌, ◌≤◌, ◌+◌, ◌==◌, ◌&&◌, ◌∙◌, eqb, nat_lt, nat_le, Bool, true, false, List, [], ◌∷◌, ◌++◌, length, map, Result, Ok, Err, refl, sym, ap, subst, arith, length-append, append_assoc, if◌then◌else◌, All, AllByRecursion, list_all, slice_split, join_with_byte, and_parts, ltb-false, le-ltb, nat_tests, slice_split_at, join_with_byte-slice_split, pieces_of, is_plain, is_plain_byte, Call, Declared, Reading, Cause, text_of_lines, IsTextOf, opening, and_then, with_line, with_last, sized, pieces_from, reading_of, Value, value_in, valued, value_of, with_lines, IsWritten, apart_from}
 use Rattle.line_forms.specs.declared.cause.Cause.TheVariants as cause
-use Rattle.trace_text.proofs.Passing.{stopped}
+use Rattle.trace_text.proofs.Passing.{and_ok, stopped}
 use Rattle.trace_text.proofs.TextSteps.{stepped, HasFirst}
 use Rattle.trace_text.proofs.Taking.{line_passes}
 use Rattle.trace_text.proofs.Written.{at_line_ok, sized_ok, last_ok, cons_read}
@@ -59,26 +59,26 @@ unfolding pieces_from with_lines
 pieces_are [] n at r s e = cc
 pieces_are (piece ∷ []) n at r s e =
     let follows = at_line_ok n (sized (at + length piece) (with_last r piece)) (λ s. Ok s) s e in
-    let found = sized_ok (at + length piece) (with_last r piece) follows.between follows.first in
-    let ends = last_ok r follows.between piece found in
-    let same : follows.between ≡ s = cc (follows.then_more) in
-    let small = sized_small (at + length piece) (with_last r piece) follows.between follows.first in
+    let found = sized_ok (at + length piece) (with_last r piece) follows.0 follows.1 in
+    let ends = last_ok r follows.0 piece found in
+    let same : follows.0 ≡ s = cc (follows.2) in
+    let small = sized_small (at + length piece) (with_last r piece) follows.0 follows.1 in
     record {
       lines = [];
-      are = ap (λ p. p ∷ []) ends.empty;
-      reads = rw (ends.same, same) refl;
-      ended = rw (← same) ends.ended;
+      are = ap (λ p. p ∷ []) ends.2;
+      reads = rw (ends.0, same) refl;
+      ended = rw (← same) ends.1;
       short = omega (arith, small);
     }
 pieces_are (piece ∷ next ∷ more) n at r s e =
     let follows = at_line_ok n (sized (at + length piece + 1) (with_line r piece))
     (λ s. pieces_from (n + 1) (at + length piece + 1) s (next ∷ more)) s e in
-    let taken = sized_ok (at + length piece + 1) (with_line r piece) follows.between follows.first in
-    let others = pieces_are (next ∷ more) (n + 1) (at + length piece + 1) follows.between s follows.then_more in
+    let taken = sized_ok (at + length piece + 1) (with_line r piece) follows.0 follows.1 in
+    let others = pieces_are (next ∷ more) (n + 1) (at + length piece + 1) follows.0 s follows.2 in
     record {
       lines = piece ∷ others.lines;
       are = ap (λ ps. piece ∷ ps) others.are;
-      reads = cons_read piece others.lines r follows.between s taken others.reads;
+      reads = cons_read piece others.lines r follows.0 s taken others.reads;
       ended = others.ended;
       short = omega (arith, length_line piece others.lines, others.short);
     }
@@ -124,13 +124,9 @@ bytes_plain (line ∷ lines) all = ((and_parts (nat_le (length line) 4096) (list
 pub lines_plain : (lines : List (List ℕ)) (r s : Reading) → with_lines r lines ≡ Ok s → AllByRecursion (λ line. list_all is_plain_byte line ≡ true) lines
 unfolding with_lines is_plain
 lines_plain [] r s e = tt
-lines_plain (line ∷ lines) r s e = by_line (with_line r line) refl (λ u. lines_plain lines u s) e
-  where
-    by_line : (found : Result Reading Cause) → with_line r line ≡ found →
-        ((u : Reading) → with_lines u lines ≡ Ok s → AllByRecursion (λ line. list_all is_plain_byte line ≡ true) lines) →
-        and_then found (λ u. with_lines u lines) ≡ Ok s → AllByRecursion (λ line. list_all is_plain_byte line ≡ true) (line ∷ lines)
-    by_line (Err c) is more e = cc
-    by_line (Ok u) is more e = ((and_parts (nat_le (length line) 4096) (list_all is_plain_byte line) (line_passes r u line is).plain).1, more u e)
+lines_plain (line ∷ lines) r s e =
+    let step = and_ok (with_line r line) (λ u. with_lines u lines) s e in
+    ((and_parts (nat_le (length line) 4096) (list_all is_plain_byte line) (line_passes r step.0 line step.1).plain).1, lines_plain lines step.0 s step.2)
 
 -- behind lines nothing more stands
 some_first : (lines : List (List ℕ)) → HasFirst (lines ++ [] ∷ [])
@@ -140,11 +136,7 @@ some_first (line ∷ lines) = record { first = line; others = lines ++ [] ∷ []
 -- what ended stays as it is
 ends_with : (r : Reading) → r.ended ≡ true → with_last r [] ≡ Ok r
 unfolding with_last
-ends_with r is = by_test r.ended is
-  where
-    by_test : (t : Bool) → t ≡ true → (if t then Ok r else (if is_plain [] then Err cause.Cut else Err cause.Line)) ≡ Ok r
-    by_test true is = refl
-    by_test false is = cc
+ends_with r is = rw is refl
 
 -- lines that can be read are read as pieces
 lines_from : (lines : List (List ℕ)) (n at : ℕ) (r s : Reading) → with_lines r lines ≡ Ok s → s.ended ≡ true →
@@ -154,17 +146,10 @@ lines_from [] n at r s e ended small =
     let same : r ≡ s = cc in
     rw (sized_is (at + 0) (with_last r []) (omega (arith, small)), ends_with r (subst (λ u. u.ended ≡ true) (sym same) ended)) (ap Ok same)
 lines_from (line ∷ lines) n at r s e ended small =
-    by_line (with_line r line) refl
-    (λ u more. lines_from lines (n + 1) (at + length line + 1) u s more ended (omega (arith, length_line line lines, small))) e
-  where
-    by_line : (found : Result Reading Cause) → with_line r line ≡ found →
-        ((u : Reading) → with_lines u lines ≡ Ok s → pieces_from (n + 1) (at + length line + 1) u (lines ++ [] ∷ []) ≡ Ok s) →
-        and_then found (λ u. with_lines u lines) ≡ Ok s → pieces_from n at r ((line ∷ lines) ++ [] ∷ []) ≡ Ok s
-    by_line (Err c) is more e = cc
-    by_line (Ok u) is more e =
-        let fits : at + length line + 1 ≤ 16777216 = omega (arith, length_line line lines, small) in
-        stepped n at r line (lines ++ [] ∷ []) (some_first lines)
-        ∙ (rw (sized_is (at + length line + 1) (with_line r line) fits, is) (more u e))
+    let step = and_ok (with_line r line) (λ u. with_lines u lines) s e in
+    let fits : at + length line + 1 ≤ 16777216 = omega (arith, length_line line lines, small) in
+    let more = lines_from lines (n + 1) (at + length line + 1) step.0 s step.2 ended (omega (arith, length_line line lines, small)) in
+    stepped n at r line (lines ++ [] ∷ []) (some_first lines) ∙ (rw (sized_is (at + length line + 1) (with_line r line) fits, step.1) more)
 
 -- a text that writes a value is read as that value
 pub written_reads : (text : List ℕ) (v : Value) → IsTextOf text v → value_of text ≡ Ok v

@@ -1,8 +1,8 @@
 -- The name of an object names that object, one more name at a time.
 use Rattle.trace_text.proofs.Vocabulary.{ℕ, suc, ◌≡◌, inl, inr, ◌<◌, ◌≤◌, ◌∙◌, Bool, true, false, List, [], ◌∷◌, ◌++◌, length, map, slice_get, get_or, Some, None, refl, sym, ap, arith, if◌then◌else◌, IsEquivalence, comparing, AllByRecursion, lookup, bytes_eq, leb-true, leb_tells, map_push, length-map, slice_get-get_or, Declared, Kind, Thing, kind_of, count_of, next_thing, names_of_kind, name_at, is_fit_name, Names, same_kind}
 use Rattle.std.specs.List.{IsDistinct}
-use Rattle.trace_text.proofs.Naming.{names_in, get_front, get_last, names_push, names_behind, names_count}
-use Rattle.trace_text.proofs.Says.{IsNameOf, kinds_same, fit_parts, name_there}
+use Rattle.trace_text.proofs.Naming.{not_first, names_in, get_front, get_last, names_push, names_behind, names_count}
+use Rattle.trace_text.proofs.Says.{IsNameOf, named_among, kinds_same, fit_parts, name_there}
 use Rattle.trace_text.proofs.SoundValues.{count_push}
 
 -- equal bytes are an equivalence
@@ -23,13 +23,7 @@ module _ {X : Type 0} where
   -- a new name is found at the end
   found_last : (es : List (List ℕ × X)) (n : List ℕ) (x : X) → lookup (bytes_eq n) es ≡ None → lookup (bytes_eq n) (es ++ (n, x) ∷ []) ≡ Some x
   found_last [] n x none = rw (equal_bytes.refl n) refl
-  found_last (e ∷ es) n x none = by_test (bytes_eq n e.0) none (λ more. found_last es n x more)
-    where
-      by_test : (t : Bool) → (if t then Some e.1 else lookup (bytes_eq n) es) ≡ None →
-          (lookup (bytes_eq n) es ≡ None → lookup (bytes_eq n) (es ++ (n, x) ∷ []) ≡ Some x) →
-          (if t then Some e.1 else lookup (bytes_eq n) (es ++ (n, x) ∷ [])) ≡ Some x
-      by_test true none behind = cc
-      by_test false none behind = behind none
+  found_last (e ∷ es) n x none = let other = not_first e es n none in rw (other.0) (found_last es n x other.1)
 
   -- a name is new where names differ
   pub fresh_among : (es : List (List ℕ × X)) (n : List ℕ) (ns : List (List ℕ)) → IsDistinct bytes_eq (map (λ e. e.0) es ++ n ∷ ns) →
@@ -51,14 +45,7 @@ AreNamed names ds =
 
 -- a name names the same with other names behind it
 named_front : (names more : Names) (k : Kind) (i : ℕ) (w : List ℕ) → IsNameOf names k i w → IsNameOf (names ++ more) k i w
-named_front names more k i w is = record {
-  thing = is.thing;
-  found = found_front names more w is.thing is.found;
-  kind_is = is.kind_is;
-  number_is = is.number_is;
-  spelled = is.spelled;
-  short = is.short;
-}
+named_front names more k i w is = named_among names (names ++ more) k i w is (found_front names more w is.thing is.found)
 
 -- the name of a place among the first
 name_front : (ns ms : List (List ℕ)) (i : ℕ) → i < length ns → name_at (ns ++ ms) i ≡ name_at ns i

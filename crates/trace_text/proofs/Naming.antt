@@ -1,44 +1,38 @@
 -- What names name, one more name at a time.
-use Rattle.trace_text.proofs.Vocabulary.{ℕ, zero, suc, ◌≡◌, ◌⊎◌, inl, inr, ◌≤◌, ◌+◌, ◌||◌, ◌∙◌, Bool, true, false, List, [], ◌∷◌, ◌++◌, length, map, slice_get, Some, None, refl, sym, ap, arith, subst, append_assoc, append-nil, if◌then◌else◌, list_any, lookup, bytes_eq, map_push, length-map, sum_by-cons, insert_entry, Declared, Kind, Thing, kind_of, count_of, next_thing, names_of_kind, Names, same_kind}
+use Rattle.trace_text.proofs.Vocabulary.{ℕ, zero, suc, ◌≡◌, ◌⊎◌, inl, inr, ◌≤◌, ◌+◌, ◌||◌, ◌∙◌, Bool, true, false, List, [], ◌∷◌, ◌++◌, length, map, slice_get, Some, None, refl, sym, ap, arith, subst, cond_both, append_assoc, append-nil, if◌then◌else◌, list_any, lookup, bytes_eq, map_push, length-map, sum_by-cons, insert_entry, Declared, Kind, Thing, kind_of, count_of, next_thing, names_of_kind, Names, same_kind}
 use Rattle.line_forms.specs.declared.kind.Kind.TheVariants as kind
-use Rattle.trace_text.proofs.Says.{IsNameOf, bytes_same, kind_same}
+use Rattle.trace_text.proofs.Says.{IsNameOf, named_among, bytes_same, kind_same}
 
 -- the names alone
 abbrev pub names_in : Names → List (List ℕ)
 names_in names = map (λ e. e.0) names
 
 module _ {X : Type 0} where
+  -- a new name is not the first, nor one of the others
+  pub not_first : (e : List ℕ × X) (es : List (List ℕ × X)) (n : List ℕ) → lookup (bytes_eq n) (e ∷ es) ≡ None →
+      (bytes_eq n e.0 ≡ false) × (lookup (bytes_eq n) es ≡ None)
+  not_first e es n none = by_test (bytes_eq n e.0) none
+    where
+      by_test : (t : Bool) → (if t then Some e.1 else lookup (bytes_eq n) es) ≡ None → (t ≡ false) × (lookup (bytes_eq n) es ≡ None)
+      by_test true none = cc
+      by_test false none = (refl, none)
+
   -- a new name goes behind the others
   pub insert_new : (es : List (List ℕ × X)) (n : List ℕ) (x : X) → lookup (bytes_eq n) es ≡ None →
       insert_entry bytes_eq es n x ≡ es ++ (n, x) ∷ []
   insert_new [] n x none = refl
-  insert_new (e ∷ es) n x none = by_test (bytes_eq n e.0) none (λ more. insert_new es n x more)
-    where
-      by_test : (t : Bool) → (if t then Some e.1 else lookup (bytes_eq n) es) ≡ None →
-          (lookup (bytes_eq n) es ≡ None → insert_entry bytes_eq es n x ≡ es ++ (n, x) ∷ []) →
-          (if t then (e.0, x) ∷ es else e ∷ insert_entry bytes_eq es n x) ≡ e ∷ (es ++ (n, x) ∷ [])
-      by_test true none behind = cc
-      by_test false none behind = ap (λ more. e ∷ more) (behind none)
+  insert_new (e ∷ es) n x none = let other = not_first e es n none in rw (other.0) (ap (λ more. e ∷ more) (insert_new es n x other.1))
 
   -- a new name is none of the others
   pub not_any : (es : List (List ℕ × X)) (n : List ℕ) → lookup (bytes_eq n) es ≡ None → list_any (bytes_eq n) (map (λ e. e.0) es) ≡ false
   not_any [] n none = refl
-  not_any (e ∷ es) n none = by_test (bytes_eq n e.0) none (λ more. not_any es n more)
-    where
-      by_test : (t : Bool) → (if t then Some e.1 else lookup (bytes_eq n) es) ≡ None →
-          (lookup (bytes_eq n) es ≡ None → list_any (bytes_eq n) (map (λ e. e.0) es) ≡ false) →
-          (t || list_any (bytes_eq n) (map (λ e. e.0) es)) ≡ false
-      by_test true none behind = cc
-      by_test false none behind = behind none
+  not_any (e ∷ es) n none = let other = not_first e es n none in rw (other.0) (not_any es n other.1)
 
   -- what is found with one more name: one of the others, or the new one
   found_more : (es : List (List ℕ × X)) (n w : List ℕ) (x y : X) → lookup (bytes_eq w) (es ++ (n, x) ∷ []) ≡ Some y →
       (lookup (bytes_eq w) es ≡ Some y) ⊎ ((w ≡ n) × (x ≡ y))
-  found_more [] n w x y e = by_test (bytes_eq w n) refl e
-    where
-      by_test : (t : Bool) → bytes_eq w n ≡ t → (if t then Some x else None) ≡ Some y → (None ≡ Some y) ⊎ ((w ≡ n) × (x ≡ y))
-      by_test true is e = inr (bytes_same w n is, cc)
-      by_test false is e = cc
+  found_more [] n w x y e =
+      cond_both (bytes_eq w n) (Some x) None (λ o. o ≡ Some y → (None ≡ Some y) ⊎ ((w ≡ n) × (x ≡ y))) (λ is e. inr (bytes_same w n is, cc)) (λ is e. inl e) e
   found_more (f ∷ es) n w x y e = by_test (bytes_eq w f.0) (λ more. found_more es n w x y more) e
     where
       by_test : (t : Bool) → (lookup (bytes_eq w) (es ++ (n, x) ∷ []) ≡ Some y → (lookup (bytes_eq w) es ≡ Some y) ⊎ ((w ≡ n) × (x ≡ y))) →
@@ -63,11 +57,10 @@ pub names_push : (k : Kind) (ns : List (List ℕ)) (ds : List Declared) (n : Lis
     names_of_kind k (ns ++ n ∷ []) (ds ++ d ∷ []) ≡ names_of_kind k ns ds ++ (if same_kind k (kind_of d) then n ∷ [] else [])
 unfolding names_of_kind
 names_push k [] [] n d same = append-nil (if same_kind k (kind_of d) then n ∷ [] else [])
-names_push k [] (e ∷ ds) n d same = absurd (omega arith)
-names_push k (m ∷ ns) [] n d same = absurd (omega arith)
 names_push k (m ∷ ns) (e ∷ ds) n d same =
     ap (λ more. (if same_kind k (kind_of e) then m ∷ [] else []) ++ more) (names_push k ns ds n d (omega arith))
     ∙ sym (append_assoc (if same_kind k (kind_of e) then m ∷ [] else []) (names_of_kind k ns ds) (if same_kind k (kind_of d) then n ∷ [] else []))
+names_push k _ _ n d same = absurd (omega arith)
 
 -- a thread's name is none of an object
 pub names_behind : (k : Kind) (ns : List (List ℕ)) (ds : List Declared) (n : List ℕ) → length ds ≤ length ns →
@@ -127,15 +120,7 @@ placed_object names ds n d same placed k i w apart named =
     by_found : (lookup (bytes_eq w) names ≡ Some named.thing) ⊎ ((w ≡ n) × (next_thing ds d ≡ named.thing)) →
         slice_get (names_of_kind k (names_in names ++ n ∷ []) (ds ++ d ∷ [])) i ≡ Some w
     by_found (inl old) =
-        let before : IsNameOf names k i w = record {
-          thing = named.thing;
-          found = old;
-          kind_is = named.kind_is;
-          number_is = named.number_is;
-          spelled = named.spelled;
-          short = named.short;
-        } in
-        placed_old k i w (names_in names) ds n d long (placed k i w apart before)
+        placed_old k i w (names_in names) ds n d long (placed k i w apart (named_among (names ++ (n, next_thing ds d) ∷ []) names k i w named old))
     by_found (inr new) =
         let kind_is : k ≡ kind_of d = named.kind_is ∙ ap (λ (t : Thing). t.kind) (sym new.1) in
         let number_is : i ≡ count_of (kind_of d) ds = sym named.number_is ∙ ap (λ (t : Thing). t.number) (sym new.1) in
@@ -159,14 +144,7 @@ placed_thread names ds n number few placed k i w apart named =
 
     by_found : (lookup (bytes_eq w) names ≡ Some named.thing) ⊎ ((w ≡ n) × (record { kind = kind.Thread; number = number } ≡ named.thing)) →
         slice_get (names_of_kind k (names_in names) ds) i ≡ Some w
-    by_found (inl old) = placed k i w apart (record {
-      thing = named.thing;
-      found = old;
-      kind_is = named.kind_is;
-      number_is = named.number_is;
-      spelled = named.spelled;
-      short = named.short;
-    })
+    by_found (inl old) = placed k i w apart (named_among (names ++ (n, record { kind = kind.Thread; number = number }) ∷ []) names k i w named old)
     by_found (inr new) =
         let kind_is : k ≡ kind.Thread = named.kind_is ∙ ap (λ (t : Thing). t.kind) (sym new.1) in
         absurd (apart_from k kind_is apart)

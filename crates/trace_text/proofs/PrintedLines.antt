@@ -42,18 +42,12 @@ abbrev pub is_short_call : KnownNames → Call → Bool
 is_short_call known c = nat_le (length (printed_line known (Calls c))) 4096
 
 abbrev is_short_item : KnownNames → Item → Bool
-is_short_item known Header = true
-is_short_item known (Declares n d) = true
-is_short_item known (Starts n) = true
 is_short_item known (Calls c) = is_short_call known c
-is_short_item known Ends = true
+is_short_item known _ = true
 
 bounded_object : (n : List ℕ) (d : Declared) → is_bounded (form_row (item_formed (Declares n d)).form) ≡ true
 bounded_object n (Queue t) = refl
-bounded_object n (Fence v) = refl
-bounded_object n (Buffer h b) = refl
-bounded_object n (Allocator t) = refl
-bounded_object n (list t) = refl
+bounded_object n _ = refl
 
 item_short : (r : Reading) (known : KnownNames) (i : Item) → Fits r known i → is_short_item known i ≡ true → IsShort (printed_line known i)
 item_short r known i fits h = by_item i fits h
@@ -63,11 +57,9 @@ item_short r known i fits h = by_item i fits h
         bounded_short (naming_of r.names) (known_of known) (short_names r.names) (form_row (item_formed i).form) (item_formed i).line (fine i).plain few fits.good
 
     by_item : (i : Item) → Fits r known i → is_short_item known i ≡ true → IsShort (printed_line known i)
-    by_item Header fits h = other Header fits refl
     by_item (Declares n d) fits h = other (Declares n d) fits (bounded_object n d)
-    by_item (Starts n) fits h = other (Starts n) fits refl
     by_item (Calls c) fits h = leb-true (length (printed_line known (Calls c))) 4096 h
-    by_item Ends fits h = other Ends fits refl
+    by_item i fits h = other i fits refl
 
 pub runs_short : (known : KnownNames) (items : List Item) (r s : Reading) → Runs known r items s → list_all (is_short_item known) items ≡ true →
     AllByRecursion IsShort (printed_lines known items)
@@ -79,9 +71,8 @@ runs_short known (i ∷ items) r s run h =
 -- all items of a value are short where its calls are
 object_short : (known : KnownNames) (ns : List (List ℕ)) (ds : List Declared) → list_all (is_short_item known) (object_items ns ds) ≡ true
 unfolding object_items
-object_short known [] ds = refl
-object_short known (n ∷ ns) [] = refl
 object_short known (n ∷ ns) (d ∷ ds) = object_short known ns ds
+object_short known _ _ = refl
 
 abbrev pub AreShortCalls : KnownNames → List (List Call) → Type 0
 AreShortCalls known ss = list_all (λ s. list_all (is_short_call known) s) ss ≡ true

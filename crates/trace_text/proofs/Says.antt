@@ -3,14 +3,13 @@ use Rattle.trace_text.proofs.Vocabulary.{ℕ, zero, suc, ◌≡◌, ◌≤◌, �
 use Rattle.std.proofs.lemmas.Slice.Eq.{bytes_eq-Decides}
 use Rattle.line_forms.specs.declared.cause.Cause.TheVariants as cause
 use Rattle.line_forms.specs.declared.kind.Kind.TheVariants as kind
-use Rattle.trace_text.proofs.Passing.{passed, stopped, none_there}
+use Rattle.trace_lines.specs.Things.{kinds}
+use Rattle.trace_text.proofs.Passing.{passed, stopped}
 
 -- a name that is not declared yet
-pub record IsNew (names : Names) (n w : List ℕ) : Type 0 where
-  pub same : n ≡ w
-  pub spelled : is_name w ≡ true
-  pub short : length w ≤ 32
-  pub fresh : lookup (bytes_eq w) names ≡ None
+pub record IsNew (names : Names) (n : List ℕ) : Type 0 where
+  pub fit : is_fit_name n ≡ true
+  pub fresh : lookup (bytes_eq n) names ≡ None
 
 -- the name of a thing of that kind and number
 pub record IsNameOf (names : Names) (k : Kind) (i : ℕ) (w : List ℕ) : Type 0 where
@@ -21,12 +20,21 @@ pub record IsNameOf (names : Names) (k : Kind) (i : ℕ) (w : List ℕ) : Type 0
   pub spelled : is_name w ≡ true
   pub short : length w ≤ 32
 
+-- it is the same among other names, where it names the same thing
+pub named_among : (names others : Names) (k : Kind) (i : ℕ) (w : List ℕ) (is : IsNameOf names k i w) → lookup (bytes_eq w) others ≡ Some is.thing → IsNameOf others k i w
+named_among names others k i w is found =
+    record { thing = is.thing; found = found; kind_is = is.kind_is; number_is = is.number_is; spelled = is.spelled; short = is.short }
+
 -- bytes that pass the test are the same
 pub bytes_same : (a b : List ℕ) → bytes_eq a b ≡ true → a ≡ b
 bytes_same a b e = (bytes_eq-Decides a b).0 e
 
--- the tests of a name that is not declared yet
-pub new_says : (names : Names) (w n : List ℕ) → new_name names w ≡ Ok n → IsNew names n w
+-- a name is spelled well and not declared yet
+abbrev pub is_new : Names → List ℕ → Bool
+is_new names m = is_fit_name m && not (is_some (lookup (bytes_eq m) names))
+
+-- what is read as a new name is the word itself, and is one
+pub new_says : (names : Names) (w n : List ℕ) → new_name names w ≡ Ok n → (n ≡ w) × (is_new names w ≡ true)
 unfolding new_name
 new_says names w n e =
     let found : Result (List ℕ) Cause = if is_some (lookup (bytes_eq w) names) then Err cause.Again else Ok w in
@@ -34,32 +42,18 @@ new_says names w n e =
     let short = passed (nat_le (length w) 32) cause.Limit found n spelled.1 in
     let fresh = stopped (is_some (lookup (bytes_eq w) names)) cause.Again (Ok w) n short.1 in
     let same : w ≡ n = cc (fresh.1) in
-    record { same = sym same; spelled = spelled.0; short = leb-true (length w) 32 short.0; fresh = none_there (lookup (bytes_eq w) names) fresh.0 }
-
--- the kind of a number
-kind_from : ℕ → Kind
-kind_from zero = kind.Queue
-kind_from (suc zero) = kind.Fence
-kind_from (suc (suc zero)) = kind.Resource
-kind_from (suc (suc (suc zero))) = kind.Allocator
-kind_from (suc (suc (suc (suc zero)))) = kind.List
-kind_from (suc (suc (suc (suc (suc n))))) = kind.Thread
+    (sym same, rw (spelled.0, short.0, fresh.0) refl)
 
 -- the number of a kind gives the kind back
-kind_back : (k : Kind) → kind_from (kind_code k) ≡ k
-unfolding kind_from
+kind_back : (k : Kind) → slice_get kinds (kind_code k) ≡ Some k
 kind_back kind.Queue = refl
-kind_back kind.Fence = refl
-kind_back kind.Resource = refl
-kind_back kind.Allocator = refl
-kind_back kind.List = refl
-kind_back kind.Thread = refl
+kind_back _ = refl
 
 -- kinds that are one
 pub kinds_same : (a b : Kind) → same_kind a b ≡ true → a ≡ b
 kinds_same a b e =
     let codes_same : kind_code a ≡ kind_code b = grind (arith, nat_tests) in
-    sym (kind_back a) ∙ (ap kind_from codes_same ∙ kind_back b)
+    let both : Some a ≡ Some b = sym (kind_back a) ∙ (ap (slice_get kinds) codes_same ∙ kind_back b) in cc
 
 -- a word that names a thing of that kind
 pub number_says : (k : Kind) (names : Names) (w : List ℕ) (i : ℕ) → number_named k names w ≡ Ok i → IsNameOf names k i w
@@ -70,12 +64,11 @@ number_says k names w i e =
   where
     found : (t : Bool) (there : Option Thing) → is_name w ≡ true → nat_le (length w) 32 ≡ t → lookup (bytes_eq w) names ≡ there →
         numbered k (if t then there else None) ≡ Ok i → IsNameOf names k i w
-    found true None s l f e = cc
-    found false there s l f e = cc
     found true (Some t) s l f e =
         let same = passed (same_kind k t.kind) cause.Name (Ok t.number) i e in
         let number : t.number ≡ i = cc (same.1) in
         record { thing = t; found = f; kind_is = kinds_same k t.kind same.0; number_is = number; spelled = s; short = leb-true (length w) 32 l }
+    found _ _ s l f e = cc
 
 -- the tests of a name
 pub record IsFit (w : List ℕ) : Type 0 where
@@ -89,11 +82,7 @@ fit_parts w fit = let both = and_parts (is_name w) (nat_le (length w) 32) fit in
 -- a kind is itself
 pub kind_same : (k : Kind) → same_kind k k ≡ true
 kind_same kind.Queue = refl
-kind_same kind.Fence = refl
-kind_same kind.Resource = refl
-kind_same kind.Allocator = refl
-kind_same kind.List = refl
-kind_same kind.Thread = refl
+kind_same _ = refl
 
 -- the name of a thing of a kind is read as its number
 pub number_back : (names : Names) (k : Kind) (i : ℕ) (w : List ℕ) → IsNameOf names k i w → number_named k names w ≡ Ok i
@@ -107,36 +96,25 @@ number_back names k i w is =
 pub name_there : (names : List (List ℕ)) (i : ℕ) (w : List ℕ) → slice_get names i ≡ Some w → name_at names i ≡ w
 name_there names i w at = rw (at, name_at) refl
 
--- a name is spelled well and not declared yet
-abbrev pub is_new : Names → List ℕ → Bool
-is_new names m = is_fit_name m && not (is_some (lookup (bytes_eq m) names))
-
--- it is read as itself
-pub new_back : (names : Names) (m : List ℕ) → is_new names m ≡ true → new_name names m ≡ Ok m
-unfolding new_name
-new_back names m h =
-    let both = and_parts (is_fit_name m) (not (is_some (lookup (bytes_eq m) names))) h in
-    let fit = fit_parts m both.0 in
-    rw (fit.spelled, fit.short, not_some (is_some (lookup (bytes_eq m) names)) both.1) refl
-  where
-    not_some : (t : Bool) → not t ≡ true → t ≡ false
-    not_some true e = cc
-    not_some false e = refl
-
--- what is read as a new name is one
-pub new_read : (names : Names) (w m : List ℕ) → new_name names w ≡ Ok m → is_new names m ≡ true
-new_read names w m e =
-    let new = new_says names w m e in
-    let fit : is_fit_name w ≡ true = and_from (is_name w) (nat_le (length w) 32) new.spelled (le-leb (length w) 32 new.short) in
-    rw (new.same) (and_from (is_fit_name w) (not (is_some (lookup (bytes_eq w) names))) fit (rw (new.fresh) refl))
-
--- the same in facts
-pub new_facts : (names : Names) (m : List ℕ) → is_new names m ≡ true → IsNew names m m
+-- what it is that a new name passes
+pub new_facts : (names : Names) (m : List ℕ) → is_new names m ≡ true → IsNew names m
 new_facts names m h =
     let both = and_parts (is_fit_name m) (not (is_some (lookup (bytes_eq m) names))) h in
-    let fit = fit_parts m both.0 in
-    record { same = refl; spelled = fit.spelled; short = leb-true (length m) 32 fit.short; fresh = none (lookup (bytes_eq m) names) both.1 }
+    record { fit = both.0; fresh = none (lookup (bytes_eq m) names) both.1 }
   where
     none : (found : Option Thing) → not (is_some found) ≡ true → found ≡ None
     none None e = refl
     none (Some t) e = cc
+
+-- it is read as itself
+pub new_back : (names : Names) (m : List ℕ) → is_new names m ≡ true → new_name names m ≡ Ok m
+unfolding new_name
+new_back names m h = let new = new_facts names m h in let fit = fit_parts m new.fit in rw (fit.spelled, fit.short, new.fresh) refl
+
+-- what is read as a new name is one
+pub new_read : (names : Names) (w m : List ℕ) → new_name names w ≡ Ok m → is_new names m ≡ true
+new_read names w m e = let new = new_says names w m e in rw (new.0) (new.1)
+
+-- a name that is spelled well is short
+pub short_fit : (w : List ℕ) → is_fit_name w ≡ true → (is_name w ≡ true) × (length w ≤ 32)
+short_fit w h = let fit = fit_parts w h in (fit.spelled, leb-true (length w) 32 fit.short)

@@ -4,6 +4,7 @@ use Rattle.std.specs.List.{IsDistinct}
 use Rattle.d3d_machine.specs.World.{HasOneQueueAtMost}
 use Rattle.trace_text.proofs.Fitting.{printed_line, short_again}
 use Rattle.trace_text.proofs.Own.{item_class, own}
+use Rattle.trace_text.proofs.Passing.{and_ok}
 use Rattle.trace_text.proofs.PrintedLines.{IsShort, is_short_call, AreShortCalls}
 use Rattle.trace_text.proofs.Sound.{IsKept, known_in, Stands, stands, no_threads, object_place, kept_item}
 use Rattle.trace_text.proofs.SoundValues.{all_call}
@@ -15,12 +16,8 @@ lines_keep : (P : Reading → Type 0) → ((r s : Reading) (line : List ℕ) →
     (lines : List (List ℕ)) (r s : Reading) → P r → with_lines r lines ≡ Ok s → P s
 unfolding with_lines
 lines_keep P keeps [] r s p e = let same : r ≡ s = cc in subst P same p
-lines_keep P keeps (line ∷ lines) r s p e = by_line (with_line r line) refl (λ u. lines_keep P keeps lines u s) e
-  where
-    by_line : (found : Result Reading Cause) → with_line r line ≡ found → ((u : Reading) → P u → with_lines u lines ≡ Ok s → P s) →
-        and_then found (λ u. with_lines u lines) ≡ Ok s → P s
-    by_line (Ok u) is more e = more u (keeps r u line p is) e
-    by_line (Err c) is more e = cc
+lines_keep P keeps (line ∷ lines) r s p e =
+    let step = and_ok (with_line r line) (λ u. with_lines u lines) s e in lines_keep P keeps lines step.0 s (keeps r step.0 line p step.1) step.2
 
 -- an item that is taken stands where it may
 takes_stands : (r s : Reading) (line : List ℕ) (t : Takes r line s) → Stands r (item_class t.others.item)
@@ -47,11 +44,8 @@ one_short p (s ∷ ss) none = absurd (omega (arith, none))
 
 -- a line keeps what is sound
 line_kept : (r s : Reading) (line : List ℕ) → IsKept r → with_line r line ≡ Ok s → IsKept s
-line_kept r s line kept e = by_line (line_passes r s line e).either
-  where
-    by_line : (r ≡ s) ⊎ Takes r line s → IsKept s
-    by_line (inl same) = subst IsKept same kept
-    by_line (inr t) = words_kept r s line kept t
+line_kept r s line kept e =
+    elim (line_passes r s line e).either [ inl same ↦ subst IsKept same kept | inr t ↦ words_kept r s line kept t ]
 
 -- what was read is sound, and the lines of its calls are short
 record IsShortKept (r : Reading) : Type 0 where
@@ -62,23 +56,24 @@ record IsShortKept (r : Reading) : Type 0 where
 short_item : (r : Reading) (i : Item) → AreShortCalls (known_in r) r.scripts → Stands r (item_class i) → IsShort (printed_line (known_in r) i) →
     AreShortCalls (known_in (with_item r i)) (with_item r i).scripts
 unfolding with_item
-short_item r Header short at line = short
 short_item r (Declares n d) short at line =
     none_short (is_short_call (known_in (with_item r (Declares n d)))) r.scripts (no_threads r (sym (object_place r d) ∙ at.placed))
 short_item r (Starts n) short at line = one_short (is_short_call (known_in (with_item r (Starts n)))) r.scripts (no_threads r at.first)
 short_item r (Calls c) short at line =
     all_call (is_short_call (known_in r)) r.scripts c short (le-leb (length (printed_line (known_in r) (Calls c))) 4096 line)
-short_item r Ends short at line = short
+short_item r _ short at line = short
 
 -- a line keeps them short
 line_short_kept : (r s : Reading) (line : List ℕ) → IsShortKept r → with_line r line ≡ Ok s → IsShortKept s
-line_short_kept r s line p e = record { kept = line_kept r s line p.kept e; short = by_line (line_passes r s line e).either }
-  where
-    by_line : (r ≡ s) ⊎ Takes r line s → AreShortCalls (known_in s) s.scripts
-    by_line (inl same) = subst (λ u. AreShortCalls (known_in u) u.scripts) same p.short
-    by_line (inr t) =
+line_short_kept r s line p e = record {
+  kept = line_kept r s line p.kept e;
+  short = elim (line_passes r s line e).either [
+    | inl same ↦ subst (λ u. AreShortCalls (known_in u) u.scripts) same p.short
+    | inr t ↦
         subst (λ u. AreShortCalls (known_in u) u.scripts) t.others.becomes
         (short_item r t.others.item p.short (takes_stands r s line t) (short_again r s line p.kept t))
+  ];
+}
 
 -- nothing is sound
 opening_kept : IsKept opening
@@ -121,26 +116,15 @@ sound_prop v = hlevel props
 pub trace_is_sound : (t : Trace) → IsSound (seen t)
 trace_is_sound t = ∥∥₁_elim t.written (sound_prop (seen t)) (written_is_sound (seen t))
 
--- the world of each trace is valid
-pub trace_is_world : (t : Trace) → IsWorld (world_of_value (seen t))
-trace_is_world t = sound_world (seen t) (trace_is_sound t)
+-- the world of each trace is valid, and has one queue at most
+pub record IsGoodWorld (w : World) : Type 0 where
+  pub valid : IsWorld w
+  pub few_queues : HasOneQueueAtMost w
 
--- and has one queue at most
-trace_has_one_queue : (t : Trace) → HasOneQueueAtMost (world_of_value (seen t))
-trace_has_one_queue t = few_queues_of (seen t) (trace_is_sound t)
-
--- the world of a trace by its parts
-world_by_parts : (t : Trace) (w : World) (ds : List Declared) (ss kept : List (List Call)) → ds ≡ t.declared → w ≡ objects_of ds →
-    kept ≡ t.scripts → ss ≡ kept → record w { scripts = ss } ≡ world_of_value (seen t)
-world_by_parts t w ds ss kept declared objects scripts copied = rw (objects, declared, copied, scripts) refl
-
--- the same by the parts of the world
+-- by the parts of the world
 pub parts_are_world : (t : Trace) (w : World) (ds : List Declared) (ss kept : List (List Call)) → ds ≡ t.declared → w ≡ objects_of ds →
-    kept ≡ t.scripts → ss ≡ kept → IsWorld (record w { scripts = ss })
+    kept ≡ t.scripts → ss ≡ kept → IsGoodWorld (record w { scripts = ss })
 parts_are_world t w ds ss kept declared objects scripts copied =
-    subst IsWorld (sym (world_by_parts t w ds ss kept declared objects scripts copied)) (trace_is_world t)
-
-pub parts_have_one_queue : (t : Trace) (w : World) (ds : List Declared) (ss kept : List (List Call)) → ds ≡ t.declared → w ≡ objects_of ds →
-    kept ≡ t.scripts → ss ≡ kept → HasOneQueueAtMost (record w { scripts = ss })
-parts_have_one_queue t w ds ss kept declared objects scripts copied =
-    subst HasOneQueueAtMost (sym (world_by_parts t w ds ss kept declared objects scripts copied)) (trace_has_one_queue t)
+    let same : record w { scripts = ss } ≡ world_of_value (seen t) = rw (objects, declared, copied, scripts) refl in
+    let sound = trace_is_sound t in
+    subst IsGoodWorld (sym same) (record { valid = sound_world (seen t) sound; few_queues = few_queues_of (seen t) sound })

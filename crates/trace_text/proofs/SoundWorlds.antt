@@ -1,5 +1,5 @@
 -- The world of a sound value.
-use Rattle.trace_text.proofs.Vocabulary.{ℕ, ◌≡◌, ◌≤◌, ◌/◌, Bool, true, false, List, [], ◌∷◌, ◌++◌, length, flat_map, Some, None, refl, arith, append_assoc, append-nil, length-append, if◌then◌else◌, list_all, and_from, le-leb, nat_tests, sum_by, sum_by-append, sum_by-cons, World, is_small_resource, IsWorld, Declared, Queue, Fence, Buffer, Allocator, list, Kind, kind_of, count_of, is_refused_size, words_of_object, words_of_all, IsSound, same_kind, Value, queue_in, fence_in, resource_in, allocator_in, list_in, with_object, objects_from, no_objects, objects_of, world_of_value}
+use Rattle.trace_text.proofs.Vocabulary.{ℕ, ◌≡◌, ◌≤◌, ◌/◌, Bool, true, false, List, [], ◌∷◌, ◌++◌, length, flat_map, Some, None, refl, arith, append_assoc, append-nil, length-append, cond_both, if◌then◌else◌, list_all, and_from, le-leb, nat_tests, sum_by, sum_by-append, sum_by-cons, World, is_small_resource, IsWorld, Declared, Queue, Fence, Buffer, Allocator, list, Kind, kind_of, count_of, is_refused_size, words_of_object, words_of_all, IsSound, same_kind, Value, queue_in, fence_in, resource_in, allocator_in, list_in, with_object, objects_from, no_objects, objects_of, world_of_value}
 use Rattle.dx_base.specs.declared.kinds.Home.{Home}
 use Rattle.d3d_machine.specs.declared.world.Resource.TheVariants.{Buffer as buffer}
 use Rattle.line_forms.specs.declared.kind.Kind.TheVariants as kind
@@ -15,38 +15,23 @@ counted k f each (d ∷ ds) =
 -- each object makes a thing of its own kind
 each_queue : (d : Declared) → length (queue_in d) ≡ (if same_kind kind.Queue (kind_of d) then 1 else 0)
 each_queue (Queue t) = refl
-each_queue (Fence v) = refl
-each_queue (Buffer h n) = refl
-each_queue (Allocator t) = refl
-each_queue (list t) = refl
+each_queue _ = refl
 
 each_fence : (d : Declared) → length (fence_in d) ≡ (if same_kind kind.Fence (kind_of d) then 1 else 0)
 each_fence (Queue t) = refl
-each_fence (Fence v) = refl
-each_fence (Buffer h n) = refl
-each_fence (Allocator t) = refl
-each_fence (list t) = refl
+each_fence _ = refl
 
 each_resource : (d : Declared) → length (resource_in d) ≡ (if same_kind kind.Resource (kind_of d) then 1 else 0)
 each_resource (Queue t) = refl
-each_resource (Fence v) = refl
-each_resource (Buffer h n) = refl
-each_resource (Allocator t) = refl
-each_resource (list t) = refl
+each_resource _ = refl
 
 each_allocator : (d : Declared) → length (allocator_in d) ≡ (if same_kind kind.Allocator (kind_of d) then 1 else 0)
 each_allocator (Queue t) = refl
-each_allocator (Fence v) = refl
-each_allocator (Buffer h n) = refl
-each_allocator (Allocator t) = refl
-each_allocator (list t) = refl
+each_allocator _ = refl
 
 each_list : (d : Declared) → length (list_in d) ≡ (if same_kind kind.List (kind_of d) then 1 else 0)
 each_list (Queue t) = refl
-each_list (Fence v) = refl
-each_list (Buffer h n) = refl
-each_list (Allocator t) = refl
-each_list (list t) = refl
+each_list _ = refl
 
 -- the objects of a world are those that the declarations make, one behind the other
 from_objects : (w : World) (ds : List Declared) → objects_from w ds ≡ record w {
@@ -78,22 +63,17 @@ lists_are ds = rw (from_objects no_objects ds) (counted kind.List list_in each_l
 
 -- a buffer that is created is small
 small_buffer : (h : Home) (n : ℕ) → is_small_resource (if is_refused_size n then None else Some (buffer h (n / 4))) ≡ true
-small_buffer h n = by_test (is_refused_size n) refl
-  where
-    by_test : (t : Bool) → is_refused_size n ≡ t → is_small_resource (if t then None else Some (buffer h (n / 4))) ≡ true
-    by_test true is = refl
-    by_test false is = let few : n ≤ 1048576 = grind (arith, nat_tests) in le-leb (n / 4) 262144 (omega (arith, few))
+small_buffer h n =
+    cond_both (is_refused_size n) None (Some (buffer h (n / 4))) (λ o. is_small_resource o ≡ true) (λ is. refl)
+    (λ is. let few : n ≤ 1048576 = grind (arith, nat_tests) in le-leb (n / 4) 262144 (omega (arith, few)))
 
 -- all buffers are small
 small_objects : (ds : List Declared) → list_all is_small_resource (flat_map resource_in ds) ≡ true
 small_objects [] = refl
-small_objects (Queue t ∷ ds) = small_objects ds
-small_objects (Fence v ∷ ds) = small_objects ds
 small_objects (Buffer h n ∷ ds) =
     and_from (is_small_resource (if is_refused_size n then None else Some (buffer h (n / 4)))) (list_all is_small_resource (flat_map resource_in ds))
     (small_buffer h n) (small_objects ds)
-small_objects (Allocator t ∷ ds) = small_objects ds
-small_objects (list t ∷ ds) = small_objects ds
+small_objects (d ∷ ds) = small_objects ds
 
 -- all resources of a world are small
 all_small : (ds : List Declared) → list_all is_small_resource (objects_of ds).resources ≡ true
@@ -101,15 +81,12 @@ all_small ds = rw (from_objects no_objects ds) (small_objects ds)
 
 -- a resource has the words of its object
 words_in_object : (d : Declared) → sum_by words_of_option (resource_in d) ≡ words_of_object d
-words_in_object (Queue t) = refl
-words_in_object (Fence v) = refl
 words_in_object (Buffer h n) = by_test (is_refused_size n)
   where
     by_test : (t : Bool) → sum_by words_of_option ((if t then None else Some (buffer h (n / 4))) ∷ []) ≡ (if t then 0 else n / 4)
     by_test true = omega (arith, sum_by-cons words_of_option None [])
     by_test false = omega (arith, sum_by-cons words_of_option (Some (buffer h (n / 4))) [])
-words_in_object (Allocator t) = refl
-words_in_object (list t) = refl
+words_in_object _ = refl
 
 words_in_objects : (ds : List Declared) → words_of_resources (flat_map resource_in ds) ≡ words_of_all ds
 words_in_objects [] = refl

@@ -1,45 +1,28 @@
 -- The spelling of data words plays no part.
-use Rattle.std.proofs.Common.{ℕ, ◌≡◌, ◌≤◌, ◌∙◌, refl, sym, ap, subst, arith, Bool, true, false, List, [], ◌∷◌, ◌++◌, length, length-append, Option, Some, None, Result, Ok, Err, ◌⊎◌, inl, inr, nat_le, ◌&&◌}
-use Rattle.std.specs.Prelude.{codes, if◌then◌else◌, not}
-use Rattle.line_forms.specs.declared.cause.Cause.{Cause}
+use Rattle.trace_text.proofs.Vocabulary.{ℕ, ◌≡◌, ◌≤◌, ◌∙◌, refl, sym, ap, subst, arith, Bool, true, false, List, [], ◌∷◌, ◌++◌, length, length-append, Option, Some, None, Result, Ok, Err, ◌⊎◌, inl, inr, nat_le, ◌&&◌, if◌then◌else◌, wrapped, two_of, form_for, Naming, or_form, word_of, each_of, read_parts, read_rest, read_row, line_again, AllByRecursion, words_of, pieces_of, is_plain, data_word_of, Reading, Cause, form_row, made, text_of_lines, IsTextOf, is_later, fault_of_place, placed_of, taken_of, and_then, naming_of, read_item, meant_of, by_form, with_words, is_skipped, with_line, Value, AreLinesOf, value_of, with_lines}
+use Rattle.std.specs.Prelude.{codes}
 use Rattle.line_forms.specs.declared.cause.Cause.TheVariants as cause
 use Rattle.line_forms.specs.declared.part.Rest.TheVariants.{Words}
-use Rattle.line_forms.specs.Causes.{wrapped, two_of}
-use Rattle.line_forms.specs.Finding.{form_for, fits}
-use Rattle.line_forms.specs.Reading.{Naming, or_form, word_of, each_of, read_parts, read_rest, read_row}
-use Rattle.line_forms.proofs.PlainWords.{line_again}
-use Rattle.std.specs.List.{AllByRecursion}
-use Rattle.trace_words.specs.Lines.{words_of, pieces_of, is_plain}
+use Rattle.line_forms.specs.Finding.{fits}
 use Rattle.trace_words.specs.Rows.{is_among}
-use Rattle.trace_words.specs.Words.{data_word_of}
 use Rattle.trace_lines.specs.declared.form.Class.TheVariants as class
 use Rattle.trace_lines.specs.declared.form.Form.TheVariants as form
-use Rattle.trace_text.specs.declared.reading.Reading.{Reading}
-use Rattle.trace_lines.specs.Forms.{form_row}
-use Rattle.trace_lines.specs.Formed.{made}
-use Rattle.trace_text.specs.Grammar.{text_of_lines, IsTextOf}
-use Rattle.trace_lines.specs.Later.{is_later}
-use Rattle.trace_text.specs.Reading.{fault_of_place, placed_of, taken_of, and_then, naming_of, read_item, meant_of, by_form, with_words}
 use Rattle.trace_text.specs.Spelling.{AreSpelled, IsSameWrite, AreAlike, SpellingsPlayNoPart}
-use Rattle.trace_text.specs.Texts.{is_skipped, with_line}
-use Rattle.trace_text.specs.Values.{Value, AreLinesOf, value_of, with_lines}
 use Rattle.trace_text.proofs.Grammar.{written_reads, read_writes, pieces_back, bytes_plain, lines_plain}
 
 count_same : (ws us : List (List ℕ)) → AreSpelled ws us → length ws ≡ length us
 count_same [] [] same = refl
-count_same [] (u ∷ us) same = absurd same
-count_same (w ∷ ws) [] same = absurd same
 count_same (w ∷ ws) (u ∷ us) same = omega (arith, count_same ws us same.1)
+count_same _ _ same = absurd same
 
 -- each word means the same
 each_same : (ws us : List (List ℕ)) → AreSpelled ws us → each_of word_of ws ≡ each_of word_of us
 unfolding each_of word_of
 each_same [] [] same = refl
-each_same [] (u ∷ us) same = absurd same
-each_same (w ∷ ws) [] same = absurd same
 each_same (w ∷ ws) (u ∷ us) same =
     ap (λ (o : Option ℕ). wrapped (λ v. v.0 ∷ v.1) (two_of (or_form o) (each_of word_of ws))) same.0
     ∙ ap (λ (x : Result (List ℕ) Cause). wrapped (λ v. v.0 ∷ v.1) (two_of (or_form (data_word_of u)) x)) (each_same ws us same.1)
+each_same _ _ same = absurd same
 
 rest_same : (n : Naming) (ws us : List (List ℕ)) → AreSpelled ws us → read_rest n Words ws ≡ read_rest n Words us
 unfolding read_rest
@@ -94,11 +77,10 @@ later_same (Err e) f g same = refl
 lines_same : (r : Reading) (lines others : List (List ℕ)) → AreAlike lines others → with_lines r lines ≡ with_lines r others
 unfolding with_lines
 lines_same r [] [] alike = refl
-lines_same r [] (other ∷ others) alike = absurd alike
-lines_same r (line ∷ lines) [] alike = absurd alike
 lines_same r (line ∷ lines) (other ∷ others) alike =
     ap (λ x. and_then x (λ s. with_lines s lines)) (first_same r line other alike.0)
     ∙ later_same (with_line r other) (λ s. with_lines s lines) (λ s. with_lines s others) (λ s. lines_same s lines others alike.1)
+lines_same r _ _ alike = absurd alike
 
 lines_are : (lines others : List (List ℕ)) (v : Value) → AreAlike lines others → AreLinesOf lines v → AreLinesOf others v
 lines_are lines others v alike are = record {

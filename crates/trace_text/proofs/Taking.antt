@@ -1,5 +1,5 @@
 -- What a line means that is taken.
-use Rattle.trace_text.proofs.Vocabulary.{ℕ, ◌≡◌, ◌⊎◌, Bool, true, false, not, List, Option, Some, None, Result, Ok, Err, inl, inr, refl, sym, ap, subst, ◌∙◌, if◌then◌else◌, words_of, is_plain, Cause, Line, form_for, read_row, reads_again, Form, Item, Reading, Formed, item_formed, made, form_row, forms, class_of, is_later, fault_of_place, placed_of, is_formless, is_over, with_item, taken_of, and_then, naming_of, read_item, meant_of, by_form, with_words, is_skipped, with_line, Names}
+use Rattle.trace_text.proofs.Vocabulary.{ℕ, ◌≡◌, ◌⊎◌, Bool, true, false, not, List, Option, Some, None, Result, Ok, Err, inl, inr, refl, sym, ap, subst, cond_both, ◌∙◌, if◌then◌else◌, words_of, is_plain, Cause, Line, form_for, read_row, reads_again, Form, Item, Reading, Formed, item_formed, made, form_row, forms, class_of, is_later, fault_of_place, placed_of, is_formless, is_over, with_item, taken_of, and_then, naming_of, read_item, meant_of, by_form, with_words, is_skipped, with_line, Names}
 use Rattle.line_forms.specs.declared.cause.Cause.TheVariants as cause
 use Rattle.line_forms.specs.Causes.{wrapped}
 use Rattle.line_forms.proofs.Results.{made_of}
@@ -60,11 +60,8 @@ meant_by : (r s : Reading) (f : Form) (ws : List (List ℕ)) (place : Option Cau
 unfolding taken_of placed_of
 meant_by r s f ws None (Err d) in_time form place found e = cc
 meant_by r s f ws (Some c) (Ok i) in_time form place found e = cc
-meant_by r s f ws (Some c) (Err d) in_time form place found e = formless (is_formless d) e
-  where
-    formless : (t : Bool) → and_then (if t then Err d else Err c) (taken_of r) ≡ Ok s → TakesWords r ws s
-    formless true e = cc
-    formless false e = cc
+meant_by r s f ws (Some c) (Err d) in_time form place found e =
+    cond_both (is_formless d) (Err d) (Err c) (λ x. and_then x (taken_of r) ≡ Ok s → TakesWords r ws s) (λ is e. cc) (λ is e. cc) e
 meant_by r s f ws None (Ok i) in_time form place found e =
     let over = stopped (is_over r i) cause.Limit (Ok (with_item r i)) s e in
     let becomes : with_item r i ≡ s = cc (over.1) in

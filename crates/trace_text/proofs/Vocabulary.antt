@@ -1,45 +1,16 @@
 -- The words of the lemmas, from the definitions and from the standard library.
+pub use Rattle.line_forms.proofs.Vocabulary.{All, All-append, All-cons, All-from_recursion, All-head, All-nil, All-tail, All-take, AllByRecursion, AllGood, AllOr, AllOrNumber, AreNamed as AreCalled, Bool, Choice, CutsOff, DataWord, Err, FlagWord, IsEquivalence, IsGoodLine, Known, List, Name, Naming, NewName, None, Number, Ok, Option, Place, Result, Row, Set, Some, Word, [], add-one, add-zero, all_tests, and_from, and_parts, ap, append-nil, append_assoc, arith, bytes_eq, comparing, cond, cond_both, drop, drop-cons, drop_all, eqb, eqb-false, eqb-true, false, filter, flat_map, flat_map-append, get_or, if◌then◌else◌, inl, inr, is_letter, is_name_byte, is_named_line, is_plain_byte, is_some, is_sound_line, join_with_byte, join_with_byte-slice_split, le-leb, le-ltb, leb-false, leb-true, leb_tells, length, length-append, length-drop, length-map, length-take-le, list_all, list_all-append, list_all-map, list_any, lit≤, lookup, lt-leb, lt-ltb, ltb-false, ltb-true, map, map-id, map_push, nat_le, nat_lt, nat_tests, nil_from_length, not, onto_first, or_form, or_from, or_parts, pieces_of, props, range_with_len, refl, shaped_from, shaped_line, slice_get, slice_get-get_or, slice_get_within, slice_set, slice_split, slice_split-cons_no, slice_split-cons_yes, slice_split_at, slice_split_none, subst, suc, sum_by, sum_by-append, sum_by-cons, sum_by_push, sym, take, take-append-le, take_all, true, words_of, wrapped, zero, ℕ, ∥∥₁_elim, ◌&&◌, ◌++◌, ◌+◌, ◌-◌, ◌/◌, ◌<◌, ◌==◌, ◌^◌, ◌||◌, ◌∙◌, ◌∷◌, ◌≡◌, ◌≤◌, ◌⊎◌}
+unfoldable pub use Rattle.line_forms.proofs.Vocabulary.{two_of, word_of, each_of, read_parts, read_rest, data_word_of, form_for, is_name, is_plain, joined, line_text, line_words, part_texts, read_row, rest_of_line, rest_texts, spaced, text_of}
 pub use Rattle.d3d_machine.specs.Counts.{calls_in_all, lists_in_all, lists_of_call}
 pub use Rattle.d3d_machine.specs.World.{IsWorld, are_named, is_named, is_small_resource}
 pub use Rattle.d3d_machine.specs.declared.calls.Call.{Call}
 pub use Rattle.d3d_machine.specs.declared.events.Event.{Event}
 pub use Rattle.d3d_machine.specs.declared.world.World.{World}
 pub use Rattle.indexmap.specs.IndexMap.{insert_entry}
-pub use Rattle.line_forms.proofs.Apart.{found_in, passes}
 pub use Rattle.line_forms.proofs.Good.{is_kept, line_kept, prints_back, reads_again}
 pub use Rattle.line_forms.proofs.PlainWords.{ArePlain, IsPlainWord, apart_from, are_words, line_again, line_is, line_of, plain_line, words_again}
 pub use Rattle.line_forms.proofs.ShortLines.{AreShortNames, bounded_short, is_bounded, is_plain_part, line_plain, line_short}
 pub use Rattle.line_forms.proofs.Tests.{line_from, named_read, new_read, new_tests, pass, pass_one, sound_read}
-unfoldable pub use Rattle.line_forms.specs.Finding.{form_for}
-pub use Rattle.line_forms.specs.Laws.{AllGood, AreNamed as AreCalled, IsGoodLine, shaped_from, shaped_line}
-unfoldable pub use Rattle.line_forms.specs.Laws.{all_apart, apart}
-unfoldable pub use Rattle.line_forms.specs.Lines.{line_text, rest_of_line}
-pub use Rattle.line_forms.specs.Parts.{AllOr, AllOrNumber, Choice, DataWord, FlagWord, Name, NewName, Number, Place, Row, Set, Word}
-pub use Rattle.line_forms.specs.Printing.{Known}
-unfoldable pub use Rattle.line_forms.specs.Printing.{joined, line_words, part_texts, rest_texts, spaced, text_of}
-pub use Rattle.line_forms.specs.Reading.{Naming}
-unfoldable pub use Rattle.line_forms.specs.Reading.{read_row}
-pub use Rattle.line_forms.specs.Sound.{all_tests, is_named_line, is_sound_line}
-pub use Rattle.line_forms.specs.declared.cause.Cause.{Cause}
-pub use Rattle.line_forms.specs.declared.form.Line.{Line}
-pub use Rattle.line_forms.specs.declared.kind.Kind.{Kind}
-pub use Rattle.std.proofs.Common.{Bool, Err, List, None, Ok, Option, Result, Some, [], add-one, add-zero, ap, append-nil, append_assoc, arith, cond, drop, drop-cons, eqb, false, flat_map, get_or, if◌then◌else◌, inl, inr, is_some, length, length-append, length-take-le, lit≤, map, nat_le, nat_lt, not, refl, slice_get, slice_set, subst, suc, sum_by, sym, take, take_all, true, zero, ℕ, ◌&&◌, ◌++◌, ◌+◌, ◌-◌, ◌/◌, ◌<◌, ◌==◌, ◌^◌, ◌||◌, ◌∙◌, ◌∷◌, ◌≡◌, ◌≤◌, ◌⊎◌}
-pub use Rattle.std.proofs.Math.Logic.{∥∥₁_elim}
-pub use Rattle.std.proofs.Props.{props}
-pub use Rattle.std.proofs.lemmas.Bool.{and_from, and_parts, eqb-false, eqb-true, le-leb, le-ltb, leb-false, leb-true, lt-leb, lt-ltb, ltb-false, ltb-true, or_from, or_parts}
-pub use Rattle.std.proofs.lemmas.Bool.Decides.{leb_tells, nat_tests}
-pub use Rattle.std.proofs.lemmas.Grind.{flat_map-append}
-pub use Rattle.std.proofs.lemmas.List.{drop_all, length-drop, length-map, map-id, map_push, nil_from_length, take-append-le}
-pub use Rattle.std.proofs.lemmas.List.Elements.{All-append, All-cons, All-from_recursion, All-head, All-nil, All-tail, All-take}
-pub use Rattle.std.proofs.lemmas.List.Folds.{list_all-append, list_all-map}
-pub use Rattle.std.proofs.lemmas.List.Splits.{join_with_byte-slice_split, slice_split-cons_no, slice_split-cons_yes, slice_split_at, slice_split_none}
-pub use Rattle.std.proofs.lemmas.List.Sums.{sum_by-append, sum_by-cons, sum_by_push}
-pub use Rattle.std.proofs.lemmas.Option.{slice_get-get_or, slice_get_within}
-pub use Rattle.std.specs.Cmp.{IsEquivalence}
-pub use Rattle.std.specs.Cmp.Rules.{comparing}
-pub use Rattle.std.specs.List.{All, AllByRecursion, filter, join_with_byte, list_all, list_any, onto_first, range_with_len, slice_split}
-pub use Rattle.std.specs.Map.{lookup}
-pub use Rattle.std.specs.Str.{bytes_eq}
 pub use Rattle.trace_lines.specs.Formed.{Formed, call_formed, formed, item_formed, item_words, list_named, made}
 unfoldable pub use Rattle.trace_lines.specs.Formed.{item_text}
 pub use Rattle.trace_lines.specs.Forms.{class_of, form_row, forms}
@@ -74,8 +45,6 @@ pub use Rattle.trace_lines.specs.declared.object.Declared.TheVariants.{Allocator
 pub use Rattle.trace_text.specs.declared.reading.Reading.{Reading}
 pub use Rattle.trace_lines.specs.declared.things.Thing.{Thing}
 pub use Rattle.trace_text.specs.declared.trace.Trace.{Trace}
-pub use Rattle.trace_words.specs.Cut.{CutsOff}
-pub use Rattle.trace_words.specs.Lines.{is_plain_byte, pieces_of, words_of}
-unfoldable pub use Rattle.trace_words.specs.Lines.{is_plain}
-pub use Rattle.trace_words.specs.Words.{is_letter, is_name_byte}
-unfoldable pub use Rattle.trace_words.specs.Words.{is_name}
+pub use Rattle.line_forms.specs.declared.cause.Cause.{Cause}
+pub use Rattle.line_forms.specs.declared.form.Line.{Line}
+pub use Rattle.line_forms.specs.declared.kind.Kind.{Kind}

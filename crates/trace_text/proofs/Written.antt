@@ -9,21 +9,14 @@ unfolding sized
 sized_ok end found s e = (stopped (nat_lt 16777216 end) cause.Size found s e).1
 
 -- what followed a line that was taken
-pub record Follows (x : Result Reading Cause) (more : Reading → Result Reading (ℕ × Cause)) (s : Reading) : Type 0 where
-  pub between : Reading
-  pub first : x ≡ Ok between
-  pub then_more : more between ≡ Ok s
-
 pub at_line_ok : (n : ℕ) (x : Result Reading Cause) (more : Reading → Result Reading (ℕ × Cause)) (s : Reading) →
-    at_line n x more ≡ Ok s → Follows x more s
-at_line_ok n (Ok u) more s e = record { between = u; first = refl; then_more = e }
+    at_line n x more ≡ Ok s → (u : Reading) × (x ≡ Ok u) × (more u ≡ Ok s)
+at_line_ok n (Ok u) more s e = (u, refl, e)
 at_line_ok n (Err c) more s e = cc
 
 -- nothing but the end of a text stood behind the last line feed
-pub record Ends (r s : Reading) (piece : List ℕ) : Type 0 where
-  pub same : r ≡ s
-  pub ended : s.ended ≡ true
-  pub empty : piece ≡ []
+abbrev pub Ends : Reading → Reading → List ℕ → Type 0
+Ends r s piece = (r ≡ s) × (s.ended ≡ true) × (piece ≡ [])
 
 pub last_ok : (r s : Reading) (piece : List ℕ) → with_last r piece ≡ Ok s → Ends r s piece
 unfolding with_last
@@ -33,7 +26,7 @@ last_ok r s piece e = by_tests (length piece == 0 && r.ended) (is_plain piece) r
     by_tests true u is e =
         let both = and_parts (length piece == 0) r.ended is in
         let same : r ≡ s = cc in
-        record { same = same; ended = rw (← same) both.1; empty = nil_from_length piece (eqb-true (length piece) 0 both.0) }
+        (same, rw (← same) both.1, nil_from_length piece (eqb-true (length piece) 0 both.0))
     by_tests false true is e = cc
     by_tests false false is e = cc
 

@@ -1,5 +1,5 @@
 -- What holds of each value that lines write.
-use Rattle.std.specs.Prelude.{ℕ, ◌≡◌, ◌≤◌, ◌+◌, ◌^◌, ◌&&◌, nat_le, nat_lt, Bool, true, false, List, length}
+use Rattle.std.specs.Prelude.{ℕ, ◌≡◌, ◌≤◌, ◌+◌, ◌^◌, ◌&&◌, nat_le, nat_lt, Bool, true, false, List, [], length}
 use Rattle.std.specs.List.{list_all, IsDistinct}
 use Rattle.std.specs.Str.{bytes_eq}
 use Rattle.dx_base.specs.declared.kinds.Home.{Home}
@@ -14,7 +14,7 @@ use Rattle.trace_lines.specs.declared.object.Declared.TheVariants as declared
 use Rattle.line_forms.specs.declared.kind.Kind.{Kind}
 use Rattle.line_forms.specs.declared.kind.Kind.TheVariants as kind
 use Rattle.line_forms.specs.Sound.{is_sound_line}
-use Rattle.trace_lines.specs.Formed.{call_formed}
+use Rattle.trace_lines.specs.Formed.{call_formed, object_formed}
 use Rattle.trace_lines.specs.Forms.{form_row}
 use Rattle.trace_lines.specs.Kinds.{count_of, most_of, words_of_all}
 use Rattle.d3d_machine.specs.Counts.{calls_in_all, lists_in_all}
@@ -42,13 +42,17 @@ is_host_home home_of.Readback = true
 is_host_home home_of.Legacy = false
 is_host_home home_of.Enhanced = false
 
--- an object's type or place is one that is read, and its number is of 64 bits
+-- an object's type or place is one that is read
+abbrev pub is_read_object : Declared → Bool
+is_read_object (declared.Queue t) = is_direct t
+is_read_object (declared.Buffer h n) = is_host_home h
+is_read_object (declared.Allocator t) = is_direct t
+is_read_object (declared.List t) = is_direct t
+is_read_object _ = true
+
+-- an object's type or place is one that is read, and its values are ones of their parts; of its name nothing is asked here
 abbrev pub is_sound_object : Declared → Bool
-is_sound_object (declared.Queue t) = is_direct t
-is_sound_object (declared.Fence v) = is_wide v
-is_sound_object (declared.Buffer h n) = is_host_home h && is_wide n
-is_sound_object (declared.Allocator t) = is_direct t
-is_sound_object (declared.List t) = is_direct t
+is_sound_object d = is_read_object d && is_sound_line (form_row (object_formed [] d).form) (object_formed [] d).line
 
 -- a call's values are ones of their parts
 abbrev pub is_sound_call : Call → Bool

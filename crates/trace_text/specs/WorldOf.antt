@@ -13,38 +13,23 @@ use Rattle.trace_text.specs.Values.{Value}
 -- refused is dead
 abbrev pub queue_in : Declared → List ListType
 queue_in (declared.Queue t) = t ∷ []
-queue_in (declared.Fence v) = []
-queue_in (declared.Buffer h n) = []
-queue_in (declared.Allocator t) = []
-queue_in (declared.List t) = []
+queue_in _ = []
 
 abbrev pub fence_in : Declared → List ℕ
-fence_in (declared.Queue t) = []
 fence_in (declared.Fence v) = v ∷ []
-fence_in (declared.Buffer h n) = []
-fence_in (declared.Allocator t) = []
-fence_in (declared.List t) = []
+fence_in _ = []
 
 abbrev pub resource_in : Declared → List (Option Resource)
-resource_in (declared.Queue t) = []
-resource_in (declared.Fence v) = []
 resource_in (declared.Buffer h n) = (if is_refused_size n then None else Some (Buffer h (n / 4))) ∷ []
-resource_in (declared.Allocator t) = []
-resource_in (declared.List t) = []
+resource_in _ = []
 
 abbrev pub allocator_in : Declared → List ListType
-allocator_in (declared.Queue t) = []
-allocator_in (declared.Fence v) = []
-allocator_in (declared.Buffer h n) = []
 allocator_in (declared.Allocator t) = t ∷ []
-allocator_in (declared.List t) = []
+allocator_in _ = []
 
 abbrev pub list_in : Declared → List ListType
-list_in (declared.Queue t) = []
-list_in (declared.Fence v) = []
-list_in (declared.Buffer h n) = []
-list_in (declared.Allocator t) = []
 list_in (declared.List t) = t ∷ []
+list_in _ = []
 
 -- a world with one more object behind those of its kind; whether it is refused may depend on what the world has
 abbrev pub with_object : World → Declared → World
