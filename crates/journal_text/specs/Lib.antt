@@ -1,0 +1,12 @@
+pub mod Words
+pub mod Tables
+pub mod Fields
+pub mod LineWords
+pub mod Forms
+pub mod Items
+pub mod Names
+pub mod Reading
+pub mod Texts
+pub mod Printing
+pub mod Sound
+pub mod Laws
