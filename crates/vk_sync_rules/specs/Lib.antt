@@ -6,6 +6,7 @@ pub mod DoneAccesses
 pub mod Numbers
 pub mod Sizes
 pub mod VkState
+pub mod Progress
 pub mod Registers
 pub mod Pieces
 pub mod Copies

@@ -43,6 +43,7 @@ use Rattle.dx_base.specs.declared.kinds.Class.TheVariants.{Uav}
 use Rattle.vk_types.specs.declared.commands.VkCommand.TheVariants.{Barrier, Copy, CopyImage, CopyIn, CopyOut, Clear, Dispatch}
 use Rattle.vk_sync_rules.specs.declared.verdicts.VkVerdict.{VkVerdict}
 use Rattle.vk_sync_rules.specs.declared.verdicts.VkVerdict.TheVariants.{Clean, Broken}
+use Rattle.vk_sync_rules.specs.Progress.{journal_of}
 use Rattle.vk_sync_rules.specs.VkState.{VkState, no_counts}
 
 -- the numbers of a table
@@ -55,9 +56,9 @@ state_of machine = record {
   plan = machine.plan;
   numbers = numbers_of machine.numbers;
   layouts = machine.layouts;
-  timelines = machine.timelines;
-  journal = machine.journal;
-  queues = machine.queues;
+  timelines = machine.progress.timelines;
+  journal = journal_of machine.progress;
+  queues = machine.progress.lanes;
   done = machine.done;
   accesses = machine.accesses;
   broken = machine.broken;

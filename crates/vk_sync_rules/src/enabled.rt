@@ -10,17 +10,17 @@ use crate::machine::VkMachine;
 use crate::places::Place;
 use crate::slots::slots_of;
 use dx_base::Seq;
-use vk_types::{VkCommand, VkStep, are_reached};
+use vk_types::{VkCommand, VkStep};
 
 impl VkMachine {
     /// Whether a batch can pass.
     fn can_pass(&self, queue: u32, number: u64) -> bool
         ensures { result ≡ is_enabled (state_of self.now) (Pass queue number) }
     {
-        let is_next = number == counts_of(&self.queues, queue).passed;
-        match batch_in(queue, number, self.journal.as_slice()) {
+        let is_next = number == counts_of(&self.progress.lanes, queue).passed;
+        match batch_in(queue, number, self.progress.batches()) {
             None => false,
-            Some(batch) => is_next && are_reached(&self.timelines, &batch.waits),
+            Some(batch) => is_next && self.progress.reaches(&batch.waits),
         }
     }
 
@@ -37,7 +37,7 @@ impl VkMachine {
         match command {
             None => false,
             Some(command) => {
-                let journal = self.journal.as_slice();
+                let journal = self.progress.batches();
                 loaded.len() == slots_of(command).count()
                     && is_free(self.done.as_slice(), journal, queue, place, command)
             }
@@ -49,13 +49,13 @@ impl VkMachine {
         ensures { result ≡ is_enabled (state_of self.now) (Command queue number index loaded.now) }
     {
         let place = Place { number, index };
-        is_running(counts_of(&self.queues, queue), number)
+        is_running(counts_of(&self.progress.lanes, queue), number)
             && (!is_done(self.done.as_slice(), queue, place)
                 && self.can_run(
                     queue,
                     place,
                     loaded,
-                    command_at(queue, place, self.journal.as_slice()),
+                    command_at(queue, place, self.progress.batches()),
                 ))
     }
 
@@ -63,9 +63,9 @@ impl VkMachine {
     fn can_end(&self, queue: u32, number: u64) -> bool
         ensures { result ≡ is_enabled (state_of self.now) (Bump queue number) }
     {
-        let counts = counts_of(&self.queues, queue);
+        let counts = counts_of(&self.progress.lanes, queue);
         let is_next = number == counts.ended && number < counts.passed;
-        match batch_in(queue, number, self.journal.as_slice()) {
+        match batch_in(queue, number, self.progress.batches()) {
             None => false,
             Some(batch) => is_next
                 && are_done(self.done.as_slice(), queue, number, &batch.commands),

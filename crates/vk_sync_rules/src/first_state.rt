@@ -8,6 +8,7 @@ ghost use Rattle.vk_sync_rules.specs.VkState.{first_state, first_queues as queue
 use crate::counts::Counts;
 use crate::machine::VkMachine;
 use crate::numbers::NumberTable;
+use crate::progress::Progress;
 use crate::sizes::{row_count, row_words, sub_count};
 use dx_base::{Memory, Seq};
 use std::alloc::Global;
@@ -126,9 +127,7 @@ impl VkMachine {
                 images: first_images(alloc, plan)?,
             },
             layouts: first_layouts(alloc, plan)?,
-            timelines: Seq::from_vec(vec![in alloc; 0; plan.timelines as usize]?),
-            journal: Seq::new(alloc),
-            queues: first_queues(alloc, plan.queues)?,
+            progress: Progress::new(alloc, plan.timelines, first_queues(alloc, plan.queues)?)?,
             done: Seq::new(alloc),
             accesses: Seq::new(alloc),
             broken: None,

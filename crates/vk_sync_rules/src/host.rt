@@ -113,7 +113,7 @@ impl VkMachine {
     {
         let accesses = self.accesses.as_slice();
         let test = IsSeenByHost {
-            queues: self.queues.as_slice(),
+            queues: self.progress.lanes.as_slice(),
         };
         are_clear_for_read(range, accesses) && each_last(accesses, range, &test)
     }

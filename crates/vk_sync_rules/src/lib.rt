@@ -26,6 +26,7 @@ mod orders;
 mod pending;
 mod pieces;
 mod places;
+mod progress;
 mod ranges;
 mod registers;
 mod routine_numbers;
@@ -35,8 +36,6 @@ mod scopes;
 mod sizes;
 mod slots;
 mod state_parts;
-#[cfg(test)]
-mod tests;
 mod updates;
 mod verdicts;
 
@@ -52,6 +51,7 @@ pub use laws::{
 };
 pub use machine::VkMachine;
 pub use places::Place;
+pub use progress::Progress;
 pub use ranges::{VkResource, WordRange};
 pub use rules::VkRule;
 pub use verdicts::VkVerdict;

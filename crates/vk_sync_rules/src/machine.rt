@@ -3,10 +3,11 @@
 use crate::accesses::DoneAccess;
 use crate::counts::{Counts, Done};
 use crate::numbers::NumberTable;
+use crate::progress::Progress;
 use crate::rules::VkRule;
 use dx_base::Seq;
 use std::alloc::Global;
-use vk_types::{Batch, DevicePlan, VkLayout};
+use vk_types::{DevicePlan, VkLayout};
 
 /// The Vulkan machine: what it knows of batches, commands, accesses, layouts and numbers.
 #[derive(Drop)]
@@ -15,9 +16,7 @@ pub struct VkMachine {
     pub(crate) plan: DevicePlan,
     pub(crate) numbers: NumberTable,
     pub(crate) layouts: Seq<Seq<VkLayout>>,
-    pub(crate) timelines: Seq<u64>,
-    pub(crate) journal: Seq<Batch>,
-    pub(crate) queues: Seq<Counts>,
+    pub(crate) progress: Progress<Counts>,
     pub(crate) done: Seq<Done>,
     pub(crate) accesses: Seq<DoneAccess>,
     pub(crate) broken: Option<VkRule>,

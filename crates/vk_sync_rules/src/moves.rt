@@ -103,9 +103,10 @@ impl VkMachine {
         let next = number_after(batch.number)?;
         let accesses = all_submitted(self.alloc, &self.accesses, batch)?;
         let copy = batch.copied(self.alloc)?;
-        self.journal.push(copy)?;
+        self.progress.reserve()?;
+        self.progress.submit(copy);
         self.accesses = accesses;
-        set_submitted(&mut self.queues, batch.queue, next);
+        set_submitted(&mut self.progress.lanes, batch.queue, next);
         self.broken = first_rule(self.broken, rule);
         Ok(rule)
     }
@@ -116,11 +117,11 @@ impl VkMachine {
         ensures same { OnErr result (state_of self.new ≡ state_of self.old) }
     {
         let next = number_after(number)?;
-        let waits = waits_in(self.alloc, batch_in(queue, number, self.journal.as_slice()))?;
+        let waits = waits_in(self.alloc, batch_in(queue, number, self.progress.batches()))?;
         let accesses = all_passed(self.alloc, &self.accesses, queue, number, waits.as_slice())?;
         self.accesses = accesses;
-        self.serial = self.serial && are_idle(self.queues.as_slice());
-        set_passed(&mut self.queues, queue, next);
+        self.serial = self.serial && are_idle(self.progress.lanes.as_slice());
+        set_passed(&mut self.progress.lanes, queue, next);
         self.broken = first_rule(self.broken, None);
         Ok(())
     }
@@ -131,11 +132,11 @@ impl VkMachine {
         ensures same { OnErr result (state_of self.new ≡ state_of self.old) }
     {
         let next = number_after(number)?;
-        let sets = sets_in(self.alloc, batch_in(queue, number, self.journal.as_slice()))?;
+        let sets = sets_in(self.alloc, batch_in(queue, number, self.progress.batches()))?;
         let accesses = all_ended(self.alloc, &self.accesses, queue, number, sets.as_slice())?;
         self.accesses = accesses;
-        set_timelines(&mut self.timelines, &sets);
-        set_ended(&mut self.queues, queue, next);
+        set_timelines(&mut self.progress.timelines, &sets);
+        set_ended(&mut self.progress.lanes, queue, next);
         self.broken = first_rule(self.broken, None);
         Ok(())
     }

@@ -11,7 +11,7 @@ use crate::journal::counts_of;
 use crate::machine::VkMachine;
 use crate::rules::VkRule;
 use dx_base::Seq;
-use vk_types::{Batch, timeline_value};
+use vk_types::Batch;
 
 /// A timeline and a value.
 type Pair = (u32, u64);
@@ -63,51 +63,46 @@ fn batch_waits_near(pair: Pair, queues: &Seq<Counts>, batch: &Batch) -> bool
 }
 
 /// Whether what each batch has still to set is below a pair.
-fn each_below(pair: Pair, queues: &Seq<Counts>, journal: &Seq<Batch>) -> bool
+fn each_below(pair: Pair, queues: &Seq<Counts>, journal: &[Batch]) -> bool
     ensures { result ≡ list_all (λ batch. list_all (is_below_it pair) (sets_left queues.now batch)) journal.now }
 {
-    journal
-        .as_slice()
-        .iter()
-        .all(|batch| batch_below(pair, queues, batch))
+    journal.iter().all(|batch| batch_below(pair, queues, batch))
 }
 
 /// Whether what each batch has still to set is near a pair.
-fn each_sets_near(pair: Pair, queues: &Seq<Counts>, journal: &Seq<Batch>) -> bool
+fn each_sets_near(pair: Pair, queues: &Seq<Counts>, journal: &[Batch]) -> bool
     ensures { result ≡ list_all (λ batch. list_all (is_near_it pair) (sets_left queues.now batch)) journal.now }
 {
     journal
-        .as_slice()
         .iter()
         .all(|batch| batch_sets_near(pair, queues, batch))
 }
 
 /// Whether what each batch has still to wait for is near a pair.
-fn each_waits_near(pair: Pair, queues: &Seq<Counts>, journal: &Seq<Batch>) -> bool
+fn each_waits_near(pair: Pair, queues: &Seq<Counts>, journal: &[Batch]) -> bool
     ensures { result ≡ list_all (λ batch. list_all (is_near_it pair) (waits_left queues.now batch)) journal.now }
 {
     journal
-        .as_slice()
         .iter()
         .all(|batch| batch_waits_near(pair, queues, batch))
 }
 
 /// Whether all that is still to be set is below a pair.
-fn all_below(pair: Pair, queues: &Seq<Counts>, journal: &Seq<Batch>) -> bool
+fn all_below(pair: Pair, queues: &Seq<Counts>, journal: &[Batch]) -> bool
     ensures { result ≡ list_all (is_below_it pair) (flat_map (sets_left queues.now) journal.now) }
 {
     each_below(pair, queues, journal)
 }
 
 /// Whether all that is still to be set is near a pair.
-fn all_sets_near(pair: Pair, queues: &Seq<Counts>, journal: &Seq<Batch>) -> bool
+fn all_sets_near(pair: Pair, queues: &Seq<Counts>, journal: &[Batch]) -> bool
     ensures { result ≡ list_all (is_near_it pair) (flat_map (sets_left queues.now) journal.now) }
 {
     each_sets_near(pair, queues, journal)
 }
 
 /// Whether all that is still to be waited for is near a pair.
-fn all_waits_near(pair: Pair, queues: &Seq<Counts>, journal: &Seq<Batch>) -> bool
+fn all_waits_near(pair: Pair, queues: &Seq<Counts>, journal: &[Batch]) -> bool
     ensures { result ≡ list_all (is_near_it pair) (flat_map (waits_left queues.now) journal.now) }
 {
     each_waits_near(pair, queues, journal)
@@ -115,7 +110,7 @@ fn all_waits_near(pair: Pair, queues: &Seq<Counts>, journal: &Seq<Batch>) -> boo
 
 /// Whether all that is still to be set or waited for is near a pair.
 #[tactic(auto, using(crate::proofs::ListSteps::all_both))]
-fn all_near(pair: Pair, queues: &Seq<Counts>, journal: &Seq<Batch>) -> bool
+fn all_near(pair: Pair, queues: &Seq<Counts>, journal: &[Batch]) -> bool
     ensures { result ≡ list_all (is_near_it pair) (flat_map (sets_left queues.now) journal.now ++ flat_map (waits_left queues.now) journal.now) }
 {
     all_sets_near(pair, queues, journal) && all_waits_near(pair, queues, journal)
@@ -126,16 +121,16 @@ impl VkMachine {
     fn is_new(&self, pair: Pair) -> bool
         ensures { result ≡ is_new (state_of self.now) pair }
     {
-        timeline_value(&self.timelines, pair.0) < pair.1
-            && all_below(pair, &self.queues, &self.journal)
+        self.progress.value(pair.0) < pair.1
+            && all_below(pair, &self.progress.lanes, self.progress.batches())
     }
 
     /// Whether a value is near a timeline's, and all that are still to be set or waited for.
     fn is_near_all(&self, pair: Pair) -> bool
         ensures { result ≡ is_near_all (state_of self.now) pair }
     {
-        is_near(pair.1, timeline_value(&self.timelines, pair.0))
-            && all_near(pair, &self.queues, &self.journal)
+        is_near(pair.1, self.progress.value(pair.0))
+            && all_near(pair, &self.progress.lanes, self.progress.batches())
     }
 
     /// Whether all pairs are new.
@@ -168,7 +163,7 @@ impl VkMachine {
             Some(VkRule::V4)
         } else if !self.is_batch_near(batch) {
             Some(VkRule::V5)
-        } else if batch.number != counts_of(&self.queues, batch.queue).submitted {
+        } else if batch.number != counts_of(&self.progress.lanes, batch.queue).submitted {
             Some(VkRule::V9)
         } else {
             None

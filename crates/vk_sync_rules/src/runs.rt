@@ -137,7 +137,7 @@ impl VkMachine {
         ensures same { OnErr result (state_of self.new ≡ state_of self.old) }
     {
         let place = Place { number, index };
-        match command_at(queue, place, self.journal.as_slice()) {
+        match command_at(queue, place, self.progress.batches()) {
             None => {
                 self.broken = first_rule(self.broken, None);
                 Ok(None)

@@ -9,7 +9,7 @@ use crate::layouts::layout_at;
 use crate::machine::VkMachine;
 use crate::ranges::VkResource;
 use crate::rules::VkRule;
-use vk_types::{VkLayout, timeline_value};
+use vk_types::VkLayout;
 
 /// The number at a place of some words; None where there is none.
 fn number_at(words: &[Option<u32>], word: usize) -> Option<u32>
@@ -42,7 +42,7 @@ impl VkMachine {
     pub fn value(&self, timeline: u32) -> u64
         ensures { result ≡ slice_index_or (state_of self.now).timelines timeline 0 }
     {
-        timeline_value(&self.timelines, timeline)
+        self.progress.value(timeline)
     }
 
     /// The least rule that the first step broke that broke one.

@@ -61,8 +61,9 @@ impl VkMachine {
     fn is_in_use(&self, slot: Slot) -> bool
         ensures { result ≡ is_in_use (state_of self.now) slot }
     {
-        self.journal.as_slice().iter().any(|batch| {
-            !(batch.number < counts_of(&self.queues, batch.queue).ended) && batch_names(batch, slot)
+        self.progress.batches().iter().any(|batch| {
+            !(batch.number < counts_of(&self.progress.lanes, batch.queue).ended)
+                && batch_names(batch, slot)
         })
     }
 

@@ -12,8 +12,6 @@ mod registers;
 mod stages;
 mod steps;
 mod support;
-#[cfg(test)]
-mod tests;
 mod timelines;
 
 pub use accesses::{Access, AccessGroup, Accesses};
