@@ -32,10 +32,11 @@ use Rattle.vk_port.specs.Valid.{IsLane, batch_of}
 use Rattle.vk_port.specs.VkState.{VkState, lane_of, no_lane}
 use Rattle.vk_port.specs.VkState as vulkan
 use Rattle.vk_port.proofs.Lists.{item_at}
-use Rattle.sys_core.specs.Lowering.{plan_buffers, plan_of_world, startup, opening_batches}
+use Rattle.sys_core.specs.Lowering.{plan_buffers, plan_of_world, startup}
 use Rattle.sys_core.specs.Memory.{spread, memory_of}
 use Rattle.sys_core.specs.Stands.{StandsAt}
-use Rattle.sys_core.specs.Steps.{submitted_of, after_submits}
+use Rattle.sys_core.specs.Steps.{submitted_of}
+use Rattle.sys_core.proofs.Startup.{after_submissions, opened_view}
 use Rattle.sys_core.specs.Consistent.{IsDevice}
 use Rattle.sys_core.specs.Ahead.{run_commands, batches_undone, memory_ahead, held_commands, AreAhead, IsQuiet}
 use Rattle.sys_core.proofs.Standing.{submitted_is}
@@ -78,10 +79,10 @@ no_lanes zero = refl
 no_lanes (suc n) = refl
 
 -- the start
-pub ahead_first : (w : World) → AreAhead w [] (after_submits (vulkan.first_state (plan_of_world w)) (opening_batches w)) (first_buffers w)
+pub ahead_first : (w : World) → AreAhead w [] (opened_view w) (first_buffers w)
 ahead_first w = by_test (nat_lt 0 (length w.queues))
   where
-    by_test : (t : Bool) → AreAhead w [] (after_submits (vulkan.first_state (plan_of_world w)) (if t then startup w ∷ [] else [])) (first_buffers w)
+    by_test : (t : Bool) → AreAhead w [] (after_submissions (vulkan.first_state (plan_of_world w)) (if t then startup w ∷ [] else [])) (first_buffers w)
     by_test true = record {
       ahead = ap (λ cs. memory_of w (run_commands cs (first_buffers w))) (nothing_to_do (length w.queues) (startup w) refl) ∙ first_memory w.resources;
     }

@@ -15,10 +15,10 @@ use Rattle.d3d_machine.specs.Play.{SameButWords, IsFinished, state_after}
 use Rattle.d3d_machine.specs.Operations.{operations, counter}
 use Rattle.d3d_machine.proofs.Operations.{HoldsRest, called_after}
 use Rattle.d3d_machine.proofs.Shape.{run_has_shape}
-use Rattle.vk_types.specs.declared.plan.DevicePlan.{DevicePlan}
 use Rattle.vk_port.specs.Journal.{of_queue}
-use Rattle.vk_sync_rules.specs.VkState.{VkState as Machine}
-use Rattle.vk_port.specs.VkState.{VkState, counter_of}
+use Rattle.vk_port.specs.DeviceView.{DeviceView}
+use Rattle.vk_port.specs.Machine.{shown}
+use Rattle.vk_port.specs.VkState.{counter_of}
 use Rattle.vk_port.proofs.Lists.{item_at}
 use Rattle.sys_core.specs.declared.parts.Armed.{Armed}
 use Rattle.sys_core.specs.declared.parts.Held.{Held}
@@ -92,7 +92,7 @@ equal_tests a b same = elim (eqb_tells a b) [
   | inr other ↦ absurd (omega (arith, same, other.1))
 ]
 
-module _ {D : Type 0} (state : D → VkState) (machine : D → Machine) (plan_of : D → Option DevicePlan) (w : World) (h : List Event) (p : Parts) (d : D) (keeps : Keeps state machine plan_of w h p d) where
+module _ (w : World) (h : List Event) (p : Parts) (d : DeviceView) (keeps : Keeps w h p d) where
   abbrev desk : Desk
   desk = (state_after w h).desk
 
@@ -105,20 +105,20 @@ module _ {D : Type 0} (state : D → VkState) (machine : D → Machine) (plan_of
       record { made = ap (λ (x : Place). x.made) place ∙ sym (ap length script); waits = ap (λ (x : Place). x.waits) place }
 
   seat_at : (t : ℕ) → t < length w.scripts → (s : Seat) × (slice_get p.seats t ≡ Some s)
-  seat_at t within = item_at p.seats t (omega (arith, within, nth.seats_count state machine plan_of w h p d keeps))
+  seat_at t within = item_at p.seats t (omega (arith, within, nth.seats_count w h p d keeps))
 
   thread_ended : (t : ℕ) → t < length w.scripts → has_ended_at w p.seats t ≡ true → IsEndedPlace (length (script_of w t)) (place_of desk t)
   thread_ended t within ended =
       let found : (s : Seat) × (slice_get p.seats t ≡ Some s) = seat_at t within in
       let by : has_ended_by (length (script_of w t)) found.0 ≡ true =
       sym (ap (λ (o : Option Seat). elim o [ None ↦ false | Some s ↦ has_ended_by (length (script_of w t)) s ]) found.1) ∙ ended in
-      subst (IsEndedPlace (length (script_of w t))) (sym (place_is w h p (state d) t found.0 keeps.consistent found.1))
+      subst (IsEndedPlace (length (script_of w t))) (sym (place_is w h p (shown d.state) t found.0 keeps.consistent found.1))
       (ended_place (map updates_in p.fences) (length (script_of w t)) found.0.made found.0.waits by)
 
   ended_thread : (t : ℕ) → t < length w.scripts → IsFinished w desk → has_ended_at w p.seats t ≡ true
   ended_thread t within finished =
       let found : (s : Seat) × (slice_get p.seats t ≡ Some s) = seat_at t within in
-      let place : place_of desk t ≡ place_from (map updates_in p.fences) (place_since found.0) = place_is w h p (state d) t found.0 keeps.consistent found.1 in
+      let place : place_of desk t ≡ place_from (map updates_in p.fences) (place_since found.0) = place_is w h p (shown d.state) t found.0 keeps.consistent found.1 in
       ap (λ (o : Option Seat). elim o [ None ↦ false | Some s ↦ has_ended_by (length (script_of w t)) s ]) found.1
       ∙ place_ended (map updates_in p.fences) (length (script_of w t)) found.0.made found.0.waits
       (sym (ap (λ (x : Place). x.made) place) ∙ finished.scripts t) (sym (ap (λ (x : Place). x.waits) place) ∙ finished.waits t)
@@ -127,21 +127,21 @@ module _ {D : Type 0} (state : D → VkState) (machine : D → Machine) (plan_of
   record IsQueueHeld (q : ℕ) : Type 0 where
     held : Held
     at : slice_get p.held q ≡ Some held
-    is : IsHeld w h (state d) q (queued held)
+    is : IsHeld w h (shown d.state) q (queued held)
     called : called_of desk q ≡ drop (counter h q) (operations w h q)
-    reached : counter_of (state d) q ≡ counter h q
+    reached : counter_of (shown d.state) q ≡ counter h q
     behind : counter h q ≤ held.submitted
 
   queue_held : (q : ℕ) → q < length w.queues → IsQueueHeld q
   queue_held q within =
-      let found : (x : Held) × (slice_get p.held q ≡ Some x) = item_at p.held q (omega (arith, within, nth.held_count state machine plan_of w h p d keeps)) in
-      let is : IsHeld w h (state d) q (queued found.0) =
+      let found : (x : Held) × (slice_get p.held q ≡ Some x) = item_at p.held q (omega (arith, within, nth.held_count w h p d keeps)) in
+      let is : IsHeld w h (shown d.state) q (queued found.0) =
       keeps.consistent.held_are.each q (queued found.0) (slice_get-map queued p.held q ∙ ap (option_map queued) found.1) in
       let type : (x : ListType) × (slice_get w.queues q ≡ Some x) = item_at w.queues q within in
       let holds : HoldsRest desk q (counter h q) (operations w h q) = called_after SameButWords w q h type.0 type.1 keeps.consistent.run in
-      let stands : StandsAt w h keeps.consistent.device.stands.rest (state d) q = keeps.consistent.device.stands.queues q within in
-      let count : submitted_of (state d) q ≡ length (of_queue q keeps.consistent.device.stands.rest) =
-      submitted_is w (state d) keeps.consistent.device.stands.rest q (begins_of w h (state d) keeps.consistent.device.stands (omega (arith, within))) stands.numbered in
+      let stands : StandsAt w h keeps.consistent.device.stands.rest (shown d.state) q = keeps.consistent.device.stands.queues q within in
+      let count : submitted_of (shown d.state) q ≡ length (of_queue q keeps.consistent.device.stands.rest) =
+      submitted_is w (shown d.state) keeps.consistent.device.stands.rest q (begins_of w h (shown d.state) keeps.consistent.device.stands (omega (arith, within))) stands.numbered in
       record {
         held = found.0;
         at = found.1;
@@ -151,36 +151,36 @@ module _ {D : Type 0} (state : D → VkState) (machine : D → Machine) (plan_of
         behind = omega (arith, stands.done, count, is.submitted_is);
       }
 
-  queue_empty : (q : ℕ) → q < length w.queues → is_empty_at p.held (state d) q ≡ true → called_of desk q ≡ []
+  queue_empty : (q : ℕ) → q < length w.queues → is_empty_at p.held (shown d.state) q ≡ true → called_of desk q ≡ []
   queue_empty q within empty =
       let on : IsQueueHeld q = queue_held q within in
       let os : List Operation = operations w h q in
-      let by : ((length on.held.operations.items == 0) && (counter_of (state d) q == on.held.submitted)) ≡ true =
-      sym (ap (λ (o : Option Held). elim o [ None ↦ false | Some x ↦ (length x.operations.items == 0) && (counter_of (state d) q == x.submitted) ]) on.at) ∙ empty in
-      let both : ((length on.held.operations.items == 0) ≡ true) × ((counter_of (state d) q == on.held.submitted) ≡ true) =
-      and_parts (length on.held.operations.items == 0) (counter_of (state d) q == on.held.submitted) by in
+      let by : ((length on.held.operations.items == 0) && (counter_of (shown d.state) q == on.held.submitted)) ≡ true =
+      sym (ap (λ (o : Option Held). elim o [ None ↦ false | Some x ↦ (length x.operations.items == 0) && (counter_of (shown d.state) q == x.submitted) ]) on.at) ∙ empty in
+      let both : ((length on.held.operations.items == 0) ≡ true) × ((counter_of (shown d.state) q == on.held.submitted) ≡ true) =
+      and_parts (length on.held.operations.items == 0) (counter_of (shown d.state) q == on.held.submitted) by in
       let none : length on.held.operations.items ≡ 0 = eqb-true (length on.held.operations.items) 0 both.0 in
-      let through : counter_of (state d) q ≡ on.held.submitted = eqb-true (counter_of (state d) q) on.held.submitted both.1 in
+      let through : counter_of (shown d.state) q ≡ on.held.submitted = eqb-true (counter_of (shown d.state) q) on.held.submitted both.1 in
       let left : length on.held.operations.items ≡ length os - on.held.submitted = ap length on.is.rest ∙ length-drop on.held.submitted os in
       on.called ∙ drop_past (counter h q) os (omega (arith, none, through, left, on.reached))
 
-  empty_queue : (q : ℕ) → q < length w.queues → IsFinished w desk → is_empty_at p.held (state d) q ≡ true
+  empty_queue : (q : ℕ) → q < length w.queues → IsFinished w desk → is_empty_at p.held (shown d.state) q ≡ true
   empty_queue q within finished =
       let on : IsQueueHeld q = queue_held q within in
       let os : List Operation = operations w h q in
       let all : length os - counter h q ≡ 0 = sym (length-drop (counter h q) os) ∙ ap length (sym on.called ∙ finished.queues q) in
       let left : length on.held.operations.items ≡ length os - on.held.submitted = ap length on.is.rest ∙ length-drop on.held.submitted os in
       let inside : on.held.submitted ≤ length os = on.is.within in
-      ap (λ (o : Option Held). elim o [ None ↦ false | Some x ↦ (length x.operations.items == 0) && (counter_of (state d) q == x.submitted) ]) on.at
-      ∙ ap (λ b. b && (counter_of (state d) q == on.held.submitted)) (equal_tests (length on.held.operations.items) 0 (omega (arith, all, left, on.behind)))
-      ∙ equal_tests (counter_of (state d) q) on.held.submitted (omega (arith, all, on.reached, on.behind, inside))
+      ap (λ (o : Option Held). elim o [ None ↦ false | Some x ↦ (length x.operations.items == 0) && (counter_of (shown d.state) q == x.submitted) ]) on.at
+      ∙ ap (λ b. b && (counter_of (shown d.state) q == on.held.submitted)) (equal_tests (length on.held.operations.items) 0 (omega (arith, all, left, on.behind)))
+      ∙ equal_tests (counter_of (shown d.state) q) on.held.submitted (omega (arith, all, on.reached, on.behind, inside))
 
   past_empty : (q : ℕ) → length w.queues ≤ q → called_of desk q ≡ []
   past_empty q past =
       ap (λ (o : Option (List Operation)). elim o [ None ↦ [] | Some x ↦ x ])
       (nothing_past desk.called q (omega (arith, past, (run_has_shape w h).desk.called)))
 
-  pub finished_if : all_from (has_ended_at w p.seats) 0 (length w.scripts) ≡ true → all_from (is_empty_at p.held (state d)) 0 (length p.held) ≡ true → IsFinished w desk
+  pub finished_if : all_from (has_ended_at w p.seats) 0 (length w.scripts) ≡ true → all_from (is_empty_at p.held (shown d.state)) 0 (length p.held) ≡ true → IsFinished w desk
   finished_if threads queues =
       let ended : (t : ℕ) → IsEndedPlace (length (script_of w t)) (place_of desk t) =
       λ t. elim (cases_lt t (length w.scripts)) [
@@ -192,7 +192,7 @@ module _ {D : Type 0} (state : D → VkState) (machine : D → Machine) (plan_of
         waits = λ t. (ended t).waits;
         queues = λ q. elim (cases_lt q (length w.queues)) [
           | inl within ↦
-              queue_empty q within (all_of (is_empty_at p.held (state d)) 0 (length p.held) q queues (omega arith) (omega (arith, within, nth.held_count state machine plan_of w h p d keeps)))
+              queue_empty q within (all_of (is_empty_at p.held (shown d.state)) 0 (length p.held) q queues (omega arith) (omega (arith, within, nth.held_count w h p d keeps)))
           | inr past ↦ past_empty q (omega (arith, past))
         ];
       }
@@ -200,11 +200,11 @@ module _ {D : Type 0} (state : D → VkState) (machine : D → Machine) (plan_of
   pub threads_if : IsFinished w desk → all_from (has_ended_at w p.seats) 0 (length w.scripts) ≡ true
   threads_if finished = all_if (has_ended_at w p.seats) 0 (length w.scripts) (λ t from below. ended_thread t (omega (arith, below)) finished)
 
-  pub queues_if : IsFinished w desk → all_from (is_empty_at p.held (state d)) 0 (length p.held) ≡ true
+  pub queues_if : IsFinished w desk → all_from (is_empty_at p.held (shown d.state)) 0 (length p.held) ≡ true
   queues_if finished =
-      all_if (is_empty_at p.held (state d)) 0 (length p.held)
-      (λ q from below. empty_queue q (omega (arith, below, nth.held_count state machine plan_of w h p d keeps)) finished)
+      all_if (is_empty_at p.held (shown d.state)) 0 (length p.held)
+      (λ q from below. empty_queue q (omega (arith, below, nth.held_count w h p d keeps)) finished)
 
   -- each queue has a timeline
-  pub timelines_many : length p.held ≤ length (state d).timelines
-  timelines_many = omega (arith, nth.held_count state machine plan_of w h p d keeps, keeps.consistent.device.objects.timelines)
+  pub timelines_many : length p.held ≤ length (shown d.state).timelines
+  timelines_many = omega (arith, nth.held_count w h p d keeps, keeps.consistent.device.objects.timelines)

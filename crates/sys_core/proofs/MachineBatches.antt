@@ -15,10 +15,10 @@ use Rattle.vk_sync_rules.specs.VkState.{VkState as Machine, batch_in, command_in
 use Rattle.vk_port.specs.declared.lanes.Lane.{Lane}
 use Rattle.vk_port.specs.After.{place_of, found_commands, command_at as view_command, sets_of}
 use Rattle.vk_port.specs.Journal.{of_queue, first_number, are_numbered}
-use Rattle.vk_port.specs.Machine.{Shows, IsCounted, from_number, lanes_from, running_of, unfinished}
+use Rattle.vk_port.specs.Machine.{IsCounted, from_number, lanes_from, lanes_of, running_of, shown, unfinished}
 use Rattle.vk_port.specs.Meaning.{IsCommand, IsBump}
 use Rattle.vk_port.specs.Valid.{IsLane, IsValid, batch_of}
-use Rattle.vk_port.specs.VkState.{VkState, lane_of, no_lane, counter_of}
+use Rattle.vk_port.specs.VkState.{lane_of, no_lane, counter_of}
 use Rattle.vk_port.proofs.Falls.{valid_place}
 use Rattle.d3d_machine.specs.declared.world.World.{World}
 use Rattle.d3d_machine.specs.declared.events.Event.{Event}
@@ -61,68 +61,68 @@ nth_is cs zero some = absurd (omega (arith, some))
 nth_is cs (suc k) some = ap (slice_get cs) (let e : k ≡ suc k - 1 = omega arith in e)
 
 -- the batch of a command that can run, with its place in the journal
-pub record IsRunning (v : VkState) (m : Machine) (q n k : ℕ) (e : IsCommand v q n k) : Type 0 where
+pub record IsRunning (m : Machine) (q n k : ℕ) (e : IsCommand (shown m) q n k) : Type 0 where
   pub index : ℕ
-  pub at : slice_get (of_queue q v.journal) index ≡ Some e.running.batch
+  pub at : slice_get (of_queue q m.journal) index ≡ Some e.running.batch
   pub batch : batch_in q n m.journal ≡ Some e.running.batch
   -- the command as the machine finds it, and as the device does
   pub command : command_at m q (record { number = n; index = k }) ≡ Some e.command
-  pub seen : view_command n k (lane_of v q).batches ≡ Some e.command
+  pub seen : view_command n k (lane_of (shown m) q).batches ≡ Some e.command
 
-pub running_is : (v : VkState) (m : Machine) (q n k : ℕ) → IsValid v → Shows m v → (e : IsCommand v q n k) → IsRunning v m q n k e
-running_is v m q n k valid shows e =
-    let lane_is : lane_of v q ≡ e.lane = get_or_from_slice_get v.lanes q e.lane no_lane e.there in
-    let lane : IsLane (of_queue q v.journal) (lane_of v q) = valid.lanes q in
-    let there : slice_get (lane_of v q).batches e.place ≡ Some e.running = ap (λ (l : Lane). slice_get l.batches e.place) lane_is ∙ e.is_running in
-    let at : slice_get (of_queue q v.journal) (lane.finished + e.place) ≡ Some e.running.batch =
-    sym (drop_at lane.finished e.place (lane.finished + e.place) (of_queue q v.journal) refl) ∙ ap (λ bs. slice_get bs e.place) (sym lane.are_last)
-    ∙ slice_get-map batch_of (lane_of v q).batches e.place ∙ ap (option_map batch_of) there in
-    let found : batch_in q e.running.batch.number v.journal ≡ Some e.running.batch =
-    batch_at q (first_number q) v.journal (lane.finished + e.place) e.running.batch (valid.numbered q) at in
+pub running_is : (m : Machine) (q n k : ℕ) → IsValid (shown m) → (e : IsCommand (shown m) q n k) → IsRunning m q n k e
+running_is m q n k valid e =
+    let lane_is : lane_of (shown m) q ≡ e.lane = get_or_from_slice_get (lanes_of m) q e.lane no_lane e.there in
+    let lane : IsLane (of_queue q m.journal) (lane_of (shown m) q) = valid.lanes q in
+    let there : slice_get (lane_of (shown m) q).batches e.place ≡ Some e.running = ap (λ (l : Lane). slice_get l.batches e.place) lane_is ∙ e.is_running in
+    let at : slice_get (of_queue q m.journal) (lane.finished + e.place) ≡ Some e.running.batch =
+    sym (drop_at lane.finished e.place (lane.finished + e.place) (of_queue q m.journal) refl) ∙ ap (λ bs. slice_get bs e.place) (sym lane.are_last)
+    ∙ slice_get-map batch_of (lane_of (shown m) q).batches e.place ∙ ap (option_map batch_of) there in
+    let found : batch_in q e.running.batch.number m.journal ≡ Some e.running.batch =
+    batch_at q (first_number q) m.journal (lane.finished + e.place) e.running.batch (valid.numbered q) at in
     let batch : batch_in q n m.journal ≡ Some e.running.batch =
-    ap (λ j. batch_in q n j) (sym shows.journal) ∙ ap (λ i. batch_in q i v.journal) (sym e.number) ∙ found in
-    let within : q < length v.lanes = slice_get_within v.lanes q e.lane e.there in
-    let place : place_of e.running.batch.number (lane_of v q).batches ≡ e.place =
-    valid_place v valid q (lane_of v q) (slice_get-get_or v.lanes q no_lane within) e.place e.running there in
+    ap (λ i. batch_in q i m.journal) (sym e.number) ∙ found in
+    let within : q < length (lanes_of m) = slice_get_within (lanes_of m) q e.lane e.there in
+    let place : place_of e.running.batch.number (lane_of (shown m) q).batches ≡ e.place =
+    valid_place (shown m) valid q (lane_of (shown m) q) (slice_get-get_or (lanes_of m) q no_lane within) e.place e.running there in
     record {
       index = lane.finished + e.place;
       at = at;
       batch = batch;
       command = ap (λ o. command_in o k) batch ∙ nth_is e.running.batch.commands k e.counted ∙ e.is_command;
-      seen = ap (λ i. view_command i k (lane_of v q).batches) (sym e.number)
-          ∙ ap (λ i. slice_get (found_commands (slice_get (lane_of v q).batches i)) (k - 1)) place
+      seen = ap (λ i. view_command i k (lane_of (shown m) q).batches) (sym e.number)
+          ∙ ap (λ i. slice_get (found_commands (slice_get (lane_of (shown m) q).batches i)) (k - 1)) place
           ∙ ap (λ o. slice_get (found_commands o) (k - 1)) there ∙ e.is_command;
     }
 
 -- the end of a batch sets new values
-pub end_fits : (w : World) (h : List Event) (v : VkState) (m : Machine) (q n : ℕ) → IsDevice w h v → Shows m v → q < length w.queues → IsBump v q n → Fits m (vk.Bump q n)
-end_fits w h v m q n device shows within bump = by_number n refl
+pub end_fits : (w : World) (h : List Event) (m : Machine) (q n : ℕ) → IsDevice w h (shown m) → q < length w.queues → IsBump (shown m) q n → Fits m (vk.Bump q n)
+end_fits w h m q n device within bump = by_number n refl
   where
-    first : (b : Batch) × IsFirst w v q n b
-    first = first_is w v q n device.valid bump
+    first : (b : Batch) × IsFirst w (shown m) q n b
+    first = first_is w (shown m) q n device.valid bump
 
     batch : batch_in q n m.journal ≡ Some first.0
     batch =
-        ap (λ j. batch_in q n j) (sym shows.journal) ∙ ap (λ i. batch_in q i v.journal) (sym first.1.number)
-        ∙ batch_at q (first_number q) v.journal (finished_of v q) first.0 (device.valid.numbered q) first.1.at
+        ap (λ i. batch_in q i m.journal) (sym first.1.number)
+        ∙ batch_at q (first_number q) m.journal (finished_of (shown m) q) first.0 (device.valid.numbered q) first.1.at
 
-    sets_are : (sets : List (ℕ × ℕ)) → sets_of (lane_of v q) ≡ sets → are_new v.timelines sets ≡ true → are_new m.timelines (sets_in (batch_in q n m.journal)) ≡ true
+    sets_are : (sets : List (ℕ × ℕ)) → sets_of (lane_of (shown m) q) ≡ sets → are_new m.timelines sets ≡ true → are_new m.timelines (sets_in (batch_in q n m.journal)) ≡ true
     sets_are sets is new =
-        ap (λ ts. are_new ts (sets_in (batch_in q n m.journal))) (sym shows.timelines) ∙ ap (λ o. are_new v.timelines (sets_in o)) batch
-        ∙ ap (are_new v.timelines) (sym first.1.sets ∙ is) ∙ new
+        ap (λ o. are_new m.timelines (sets_in o)) batch
+        ∙ ap (are_new m.timelines) (sym first.1.sets ∙ is) ∙ new
 
     by_number : (k : ℕ) → n ≡ k → are_new m.timelines (sets_in (batch_in q n m.journal)) ≡ true
     by_number zero is =
-        let zeroth : (q ≡ 0) × (finished_of v q ≡ 0) = number_0 q (finished_of v q) (first.1.finished ∙ is) in
-        let start : IsFirst w v 0 0 first.0 = subst (λ i. IsFirst w v i 0 first.0) zeroth.0 (subst (λ i. IsFirst w v q i first.0) is first.1) in
-        let none : finished_of v 0 ≡ 0 = subst (λ i. finished_of v i ≡ 0) zeroth.0 zeroth.1 in
-        let sets : sets_of (lane_of v q) ≡ (length w.queues, 1) ∷ [] = subst (λ i. sets_of (lane_of v i) ≡ (length w.queues, 1) ∷ []) (sym zeroth.0) (start_sets w h v first.0 device (omega (arith, within)) start) in
+        let zeroth : (q ≡ 0) × (finished_of (shown m) q ≡ 0) = number_0 q (finished_of (shown m) q) (first.1.finished ∙ is) in
+        let start : IsFirst w (shown m) 0 0 first.0 = subst (λ i. IsFirst w (shown m) i 0 first.0) zeroth.0 (subst (λ i. IsFirst w (shown m) q i first.0) is first.1) in
+        let none : finished_of (shown m) 0 ≡ 0 = subst (λ i. finished_of (shown m) i ≡ 0) zeroth.0 zeroth.1 in
+        let sets : sets_of (lane_of (shown m) q) ≡ (length w.queues, 1) ∷ [] = subst (λ i. sets_of (lane_of (shown m) i) ≡ (length w.queues, 1) ∷ []) (sym zeroth.0) (start_sets w h (shown m) first.0 device (omega (arith, within)) start) in
         sets_are ((length w.queues, 1) ∷ []) sets
-        (and_of (nat_lt (counter_of v (length w.queues)) 1) true (lt-ltb (counter_of v (length w.queues)) 1 (omega (arith, device.unopened none))) refl)
+        (and_of (nat_lt (counter_of (shown m) (length w.queues)) 1) true (lt-ltb (counter_of (shown m) (length w.queues)) 1 (omega (arith, device.unopened none))) refl)
     by_number (suc k) is =
-        let ending : (o : Operation) × IsEnding w h v q n o = ending_is w h v q n first.0 device within first.1 (omega (arith, is)) in
-        let before : counter_of v q ≡ n - 1 = (device.stands.queues q within).counter_is ∙ ending.1.counter_is in
-        sets_are ((q, n) ∷ []) ending.1.sets (and_of (nat_lt (counter_of v q) n) true (lt-ltb (counter_of v q) n (omega (arith, before, is))) refl)
+        let ending : (o : Operation) × IsEnding w h (shown m) q n o = ending_is w h (shown m) q n first.0 device within first.1 (omega (arith, is)) in
+        let before : counter_of (shown m) q ≡ n - 1 = (device.stands.queues q within).counter_is ∙ ending.1.counter_is in
+        sets_are ((q, n) ∷ []) ending.1.sets (and_of (nat_lt (counter_of (shown m) q) n) true (lt-ltb (counter_of (shown m) q) n (omega (arith, before, is))) refl)
 
 lanes_long : (m : Machine) (q k : ℕ) → length (lanes_from m q k) ≡ k
 lanes_long m q zero = refl
@@ -134,8 +134,8 @@ lane_at m zero (suc k) q j within is = ap (unfinished m) (let e : q ≡ j = omeg
 lane_at m (suc i) (suc k) q j within is = lane_at m i k (q + 1) j (omega (arith, within)) (omega (arith, is))
 
 -- the device has a lane for each queue of the machine
-pub queues_many : (m : Machine) (v : VkState) → Shows m v → length v.lanes ≡ length m.queues
-queues_many m v shows = ap length shows.lanes ∙ lanes_long m 0 (length m.queues)
+pub queues_many : (m : Machine) → length (lanes_of m) ≡ length m.queues
+queues_many m = lanes_long m 0 (length m.queues)
 
 all_left : (e k : ℕ) (bs : List Batch) → are_numbered k bs ≡ true → e ≤ k → length (from_number e bs) ≡ length bs
 all_left e k [] numbered le = refl
@@ -161,12 +161,11 @@ left_long e k (b ∷ bs) numbered le =
     ]
 
 -- the number of the next batch to end
-pub ended_is : (m : Machine) (v : VkState) (q : ℕ) → Shows m v → IsCounted m → q < length m.queues → (counts_of m q).ended ≡ first_number q + finished_of v q
-ended_is m v q shows counted within =
+pub ended_is : (m : Machine) (q : ℕ) → IsCounted m → q < length m.queues → (counts_of m q).ended ≡ first_number q + finished_of (shown m) q
+ended_is m q counted within =
     let e : ℕ = (counts_of m q).ended in
-    let lane : lane_of v q ≡ unfinished m q = ap (λ ls. get_or ls q no_lane) shows.lanes ∙ lane_at m q (length m.queues) 0 q within (omega arith) in
+    let lane : lane_of (shown m) q ≡ unfinished m q = lane_at m q (length m.queues) 0 q within (omega arith) in
     let left : length (from_number e (of_queue q m.journal)) ≡ (first_number q + length (of_queue q m.journal)) - e = left_long e (first_number q) (of_queue q m.journal) (counted.numbered q) (counted.first_ended q within) in
-    let long : length (lane_of v q).batches ≡ length (from_number e (of_queue q m.journal)) =
+    let long : length (lane_of (shown m) q).batches ≡ length (from_number e (of_queue q m.journal)) =
     ap (λ (l : Lane). length l.batches) lane ∙ length-map (from_number e (of_queue q m.journal)) (running_of m.done q) in
-    let journal : length (of_queue q v.journal) ≡ length (of_queue q m.journal) = ap (λ j. length (of_queue q j)) shows.journal in
-    omega (arith, left, long, journal, counted.next q within, counted.ended_passed q, counted.passed_submitted q, counted.first_ended q within)
+    omega (arith, left, long, counted.next q within, counted.ended_passed q, counted.passed_submitted q, counted.first_ended q within)

@@ -15,10 +15,10 @@ use Rattle.d3d_machine.specs.declared.events.Operation.{Operation}
 use Rattle.d3d_machine.specs.State.{script_of}
 use Rattle.d3d_machine.specs.Operations.{operations}
 use Rattle.sys_core.proofs.PastParts.{seats_many}
-use Rattle.vk_types.specs.declared.plan.DevicePlan.{DevicePlan}
 use Rattle.vk_port.specs.Offers.{steps_offered}
 use Rattle.verdicts.specs.declared.rules.Verdict.TheVariants.{Clean}
-use Rattle.vk_sync_rules.specs.VkState.{VkState as Machine}
+use Rattle.vk_port.specs.DeviceView.{DeviceView}
+use Rattle.vk_port.specs.Machine.{shown}
 use Rattle.vk_port.specs.VkState.{VkState}
 use Rattle.sys_core.specs.declared.parts.Held.{Held}
 use Rattle.sys_core.specs.declared.parts.Parts.{Parts}
@@ -203,7 +203,7 @@ where_few test make a (suc n) = by_test (test a) (where_few test make (a + 1) n)
     by_test true few = omega (arith, few)
     by_test false few = omega (arith, few)
 
-module _ {D : Type 0} (state : D → VkState) (machine : D → Machine) (plan_of : D → Option DevicePlan) (w : World) (h : List Event) (p : Parts) (d : D) (keeps : Keeps state machine plan_of w h p d) where
+module _ (w : World) (h : List Event) (p : Parts) (d : DeviceView) (keeps : Keeps w h p d) where
   pub seats_count : length p.seats ≡ length w.scripts
   seats_count = seats_many w h p.lists p.seats (map updates_in p.fences) keeps.consistent.past_is
 
@@ -214,20 +214,20 @@ module _ {D : Type 0} (state : D → VkState) (machine : D → Machine) (plan_of
   seat_same t less = elim (slice_get_cases p.seats t).1 [
     | inl found ↦
         ap (λ (o : Option Seat). elim o [ None ↦ false | Some s ↦ ready_by (script_of w t) (map updates_in p.fences) s ]) found.2
-        ∙ ready_is state machine plan_of w h p d t found.0 keeps found.2
+        ∙ ready_is w h p d t found.0 keeps found.2
     | inr past ↦ absurd (omega (arith, less, past.0, seats_count))
   ]
 
-  held_same : (q : ℕ) → q < length w.queues → holds_at p.held q ≡ is_ready_worker w h (state d) q
+  held_same : (q : ℕ) → q < length w.queues → holds_at p.held q ≡ is_ready_worker w h (shown d.state) q
   held_same q less = elim (slice_get_cases p.held q).1 [
     | inl found ↦
-        let held : IsHeld w h (state d) q (queued found.0) =
+        let held : IsHeld w h (shown d.state) q (queued found.0) =
         keeps.consistent.held_are.each q (queued found.0) (slice_get-map queued p.held q ∙ ap (option_map queued) found.2) in
         let os : List Operation = operations w h q in
-        let left : length found.0.operations.items ≡ length os - submitted_of (state d) q =
+        let left : length found.0.operations.items ≡ length os - submitted_of (shown d.state) q =
         ap length held.rest ∙ length-drop found.0.submitted os ∙ ap (λ n. length os - n) held.submitted_is in
         ap (λ (o : Option Held). elim o [ None ↦ false | Some y ↦ nat_lt 0 (length y.operations.items) ]) found.2
-        ∙ ap (λ n. nat_lt 0 n) left ∙ left_some (length os) (submitted_of (state d) q)
+        ∙ ap (λ n. nat_lt 0 n) left ∙ left_some (length os) (submitted_of (shown d.state) q)
     | inr past ↦ absurd (omega (arith, less, past.0, held_count))
   ]
 
@@ -239,29 +239,29 @@ module _ {D : Type 0} (state : D → VkState) (machine : D → Machine) (plan_of
   workers = steps_where (holds_at p.held) (λ q. step.Worker q) 0 (length w.queues)
 
   abbrev devices : ℕ → List Step
-  devices free = steps_where always (λ k. step.Device k) 0 (numbered (steps_offered (state d) free))
+  devices free = steps_where always (λ k. step.Device k) 0 (numbered (steps_offered (shown d.state) free))
 
-  enabled_is : (free : ℕ) → threads ++ (workers ++ devices free) ≡ enabled_of w h Clean (state d) free
+  enabled_is : (free : ℕ) → threads ++ (workers ++ devices free) ≡ enabled_of w h Clean (shown d.state) free
   enabled_is free =
       ap (λ xs. xs ++ (workers ++ devices free)) (where_same (ready_at w (map updates_in p.fences) p.seats) (is_ready_thread w h) (λ t. step.Thread t) 0 (length w.scripts) (λ t less. seat_same t (omega (arith, less))))
       ∙ ap (λ xs. steps_where (is_ready_thread w h) (λ t. step.Thread t) 0 (length w.scripts) ++ (xs ++ devices free))
-      (where_same (holds_at p.held) (is_ready_worker w h (state d)) (λ q. step.Worker q) 0 (length w.queues) (λ q less. held_same q (omega (arith, less))))
+      (where_same (holds_at p.held) (is_ready_worker w h (shown d.state)) (λ q. step.Worker q) 0 (length w.queues) (λ q less. held_same q (omega (arith, less))))
 
   -- the count of the steps that can be taken
-  pub count_is : (free a b c : ℕ) → a ≡ length threads → b ≡ length workers → c ≡ numbered (steps_offered (state d) free) → a + (b + c) ≡ length (enabled_of w h Clean (state d) free)
+  pub count_is : (free a b c : ℕ) → a ≡ length threads → b ≡ length workers → c ≡ numbered (steps_offered (shown d.state) free) → a + (b + c) ≡ length (enabled_of w h Clean (shown d.state) free)
   count_is free a b c one two three =
       omega (
         arith,
         one,
         two,
-        three ∙ sym (where_length (λ k. step.Device k) 0 (numbered (steps_offered (state d) free))),
+        three ∙ sym (where_length (λ k. step.Device k) 0 (numbered (steps_offered (shown d.state) free))),
         length-append threads (workers ++ devices free),
         length-append workers (devices free),
         ap length (enabled_is free),
       )
 
   -- the count fits 64 bits
-  pub count_fits : (free a b c : ℕ) → a ≡ length threads → b ≡ length workers → c ≡ numbered (steps_offered (state d) free) → a + (b + c) < 2 ^ 64
+  pub count_fits : (free a b c : ℕ) → a ≡ length threads → b ≡ length workers → c ≡ numbered (steps_offered (shown d.state) free) → a + (b + c) < 2 ^ 64
   count_fits free a b c one two three =
       omega (
         arith,
@@ -275,32 +275,32 @@ module _ {D : Type 0} (state : D → VkState) (machine : D → Machine) (plan_of
       )
 
   -- the step of a place, by what the searches found
-  pub nth_is_thread : (free k : ℕ) (x : Step) → slice_get threads k ≡ Some x → slice_get (enabled_of w h Clean (state d) free) k ≡ Some x
+  pub nth_is_thread : (free k : ℕ) (x : Step) → slice_get threads k ≡ Some x → slice_get (enabled_of w h Clean (shown d.state) free) k ≡ Some x
   nth_is_thread free k x is = ap (λ xs. slice_get xs k) (sym (enabled_is free)) ∙ get_front threads (workers ++ devices free) k x is
 
-  pub nth_is_worker : (free k left : ℕ) (x : Step) → k ≡ length threads + left → slice_get workers left ≡ Some x → slice_get (enabled_of w h Clean (state d) free) k ≡ Some x
+  pub nth_is_worker : (free k left : ℕ) (x : Step) → k ≡ length threads + left → slice_get workers left ≡ Some x → slice_get (enabled_of w h Clean (shown d.state) free) k ≡ Some x
   nth_is_worker free k left x behind is =
       ap (λ xs. slice_get xs k) (sym (enabled_is free)) ∙ ap (slice_get (threads ++ (workers ++ devices free))) behind
       ∙ get_behind threads (workers ++ devices free) left ∙ get_front workers (devices free) left x is
 
   -- the place among the device's steps
-  pub device_within : (free k left more : ℕ) → k ≡ length threads + left → left ≡ length workers + more → k < length (enabled_of w h Clean (state d) free) → more < numbered (steps_offered (state d) free)
+  pub device_within : (free k left more : ℕ) → k ≡ length threads + left → left ≡ length workers + more → k < length (enabled_of w h Clean (shown d.state) free) → more < numbered (steps_offered (shown d.state) free)
   device_within free k left more behind further within =
       omega (
         arith,
         behind,
         further,
         within,
-        where_length (λ k. step.Device k) 0 (numbered (steps_offered (state d) free)),
+        where_length (λ k. step.Device k) 0 (numbered (steps_offered (shown d.state) free)),
         length-append threads (workers ++ devices free),
         length-append workers (devices free),
         ap length (enabled_is free),
       )
 
-  pub nth_is_device : (free k left more : ℕ) → k ≡ length threads + left → left ≡ length workers + more → k < length (enabled_of w h Clean (state d) free) →
-      slice_get (enabled_of w h Clean (state d) free) k ≡ Some (step.Device more)
+  pub nth_is_device : (free k left more : ℕ) → k ≡ length threads + left → left ≡ length workers + more → k < length (enabled_of w h Clean (shown d.state) free) →
+      slice_get (enabled_of w h Clean (shown d.state) free) k ≡ Some (step.Device more)
   nth_is_device free k left more behind further within =
       ap (λ xs. slice_get xs k) (sym (enabled_is free)) ∙ ap (slice_get (threads ++ (workers ++ devices free))) behind
       ∙ get_behind threads (workers ++ devices free) left ∙ ap (slice_get (workers ++ devices free)) further ∙ get_behind workers (devices free) more
-      ∙ device_from 0 (numbered (steps_offered (state d) free)) more (device_within free k left more behind further within)
+      ∙ device_from 0 (numbered (steps_offered (shown d.state) free)) more (device_within free k left more behind further within)
       ∙ ap (λ j. Some (step.Device j)) (let e : 0 + more ≡ more = omega arith in e)

@@ -21,11 +21,13 @@ use Rattle.vk_port.proofs.Valid.{first_valid, submit_valid}
 use Rattle.vk_port.proofs.Matching.{first_matches, submit_matches}
 use Rattle.sys_core.specs.Lowering.{plan_of_world, startup}
 use Rattle.sys_core.specs.Opened.{opened}
+use Rattle.vk_port.specs.Machine.{shown}
+use Rattle.sys_core.proofs.MachineSteps.{machine_open}
 use Rattle.d3d_machine.specs.Past.{first_place}
 use Rattle.sys_core.specs.Parts.{place_since, Queued, no_queue, opening_seat}
-use Rattle.sys_core.specs.Steps.{after_submits, submitted_of}
+use Rattle.sys_core.specs.Steps.{submitted_of}
 use Rattle.sys_core.specs.Consistent.{IsHeld, AreHeld, IsDevice, IsConsistent, finished_of}
-use Rattle.sys_core.proofs.Startup.{opening_is, opening_none}
+use Rattle.sys_core.proofs.Startup.{opening_is, opening_none, after_submissions}
 
 -- the device when the start-up batch is submitted
 abbrev begun : World → VkState
@@ -119,14 +121,15 @@ device_without w none = record {
 }
 
 -- with a queue or without
-opens : (P : VkState → Type 0) (w : World) → (0 < length w.queues → P (begun w)) → (length w.queues ≤ 0 → P (first_device (plan_of_world w))) → P (opened w)
+opens : (P : VkState → Type 0) (w : World) → (0 < length w.queues → P (begun w)) → (length w.queues ≤ 0 → P (first_device (plan_of_world w))) → P (shown (opened w))
 opens P w some none =
-    elim (cases_lt 0 (length w.queues)) [
-      | inl within ↦ subst (λ bs. P (after_submits (first_device (plan_of_world w)) bs)) (sym (opening_is w within)) (some within)
-      | inr past ↦ subst (λ bs. P (after_submits (first_device (plan_of_world w)) bs)) (sym (opening_none w past)) (none past)
-    ]
+    subst P (sym (machine_open w).1)
+    (elim (cases_lt 0 (length w.queues)) [
+      | inl within ↦ subst (λ bs. P (after_submissions (first_device (plan_of_world w)) bs)) (sym (opening_is w within)) (some within)
+      | inr past ↦ subst (λ bs. P (after_submissions (first_device (plan_of_world w)) bs)) (sym (opening_none w past)) (none past)
+    ])
 
-device_open : (w : World) → IsDevice w [] (opened w)
+device_open : (w : World) → IsDevice w [] (shown (opened w))
 device_open w = opens (λ v. IsDevice w [] v) w (λ some. device_with w some) (λ none. device_without w none)
 
 const_at : {A : Type 0} (xs : List A) (q : ℕ) (x : Queued) → slice_get (map (λ _. no_queue) xs) q ≡ Some x → no_queue ≡ x
@@ -134,12 +137,12 @@ const_at [] q x is = absurd (cc)
 const_at (y ∷ ys) zero x is = grind arith
 const_at (y ∷ ys) (suc q) x is = const_at ys q x is
 
-held_open : (w : World) → AreHeld w [] (opened w) (map (λ _. no_queue) w.queues)
+held_open : (w : World) → AreHeld w [] (shown (opened w)) (map (λ _. no_queue) w.queues)
 held_open w = record {
   count = length-map w.queues (λ _. no_queue);
   each = λ q x at.
       let within : q < length w.queues = omega (arith, slice_get_within (map (λ _. no_queue) w.queues) q x at, length-map w.queues (λ _. no_queue)) in
-      subst (λ y. IsHeld w [] (opened w) q y) (const_at w.queues q x at)
+      subst (λ y. IsHeld w [] (shown (opened w)) q y) (const_at w.queues q x at)
       (opens (λ v. IsHeld w [] v q no_queue) w
       (λ some. record { submitted_is = none_submitted w q; within = omega arith; rest = refl; last_is = refl; pending = refl })
       (λ none. absurd (omega (arith, within, none))));
@@ -147,7 +150,7 @@ held_open w = record {
 
 -- before any call
 pub consistent_open : (w : World) → IsWorld w →
-    IsConsistent w [] (map (λ _. declared_list) w.lists) (map (λ _. opening_seat) w.scripts) (map (λ v. v ∷ []) w.fences) (map (λ _. no_queue) w.queues) (opened w)
+    IsConsistent w [] (map (λ _. declared_list) w.lists) (map (λ _. opening_seat) w.scripts) (map (λ v. v ∷ []) w.fences) (map (λ _. no_queue) w.queues) (shown (opened w))
 consistent_open w world = record {
   world = world;
   run = tt;

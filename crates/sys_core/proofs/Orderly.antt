@@ -15,8 +15,8 @@ use Rattle.vk_port.specs.declared.lanes.Lane.{Lane}
 use Rattle.vk_port.specs.declared.lanes.Running.{Running}
 use Rattle.vk_port.specs.After.{lane_after_submit, started, after_submit}
 use Rattle.vk_port.specs.VkState.{VkState, lane_of, no_lane, first_state}
-use Rattle.sys_core.specs.Lowering.{plan_of_world, startup, opening_batches, lower_record, lowered_commands, leading, trailing}
-use Rattle.sys_core.specs.Steps.{after_submits}
+use Rattle.sys_core.specs.Lowering.{plan_of_world, startup, lower_record, lowered_commands, leading, trailing}
+use Rattle.sys_core.proofs.Startup.{after_submissions, opened_view}
 use Rattle.sys_core.specs.InOrder.{is_single, is_short, is_spent, is_untouched, are_in_order}
 
 -- the commands of an operation of at most one command
@@ -73,10 +73,10 @@ order_without zero = refl
 order_without (suc n) = refl
 
 -- the start
-pub order_first : (w : World) → are_in_order (lane_of (after_submits (first_state (plan_of_world w)) (opening_batches w)) 0).batches ≡ true
+pub order_first : (w : World) → are_in_order (lane_of (opened_view w) 0).batches ≡ true
 order_first w = by_test (nat_lt 0 (length w.queues))
   where
-    by_test : (t : Bool) → are_in_order (lane_of (after_submits (first_state (plan_of_world w)) (if t then startup w ∷ [] else [])) 0).batches ≡ true
+    by_test : (t : Bool) → are_in_order (lane_of (after_submissions (first_state (plan_of_world w)) (if t then startup w ∷ [] else [])) 0).batches ≡ true
     by_test true = order_with (length w.queues) (startup w) refl
     by_test false = order_without (length w.queues)
 

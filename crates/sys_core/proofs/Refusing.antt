@@ -17,7 +17,6 @@ use Rattle.d3d_machine.specs.Play.{IsRunButWords, May, SameButWords, state_after
 use Rattle.d3d_machine.specs.Laws.{HasNoEffect}
 use Rattle.d3d_machine.proofs.Refusals.{not_good, refused_calls_have_no_effect}
 use Rattle.vk_sync_rules.specs.VkState.{VkState as Machine}
-use Rattle.vk_port.specs.VkState.{VkState}
 use Rattle.sys_core.specs.declared.faults.SysFault.{SysFault}
 use Rattle.sys_core.specs.Goes.{SysState, WasTaken, AreRefusalsIdle, state_of}
 use Rattle.sys_core.specs.Keeps.{SysView, IsSystem}
@@ -37,19 +36,18 @@ last_is : (h : List Event) (d e : Event) → h ++ d ∷ [] ≡ h ++ e ∷ [] →
 last_is [] d e is = cc
 last_is (x ∷ h) d e is = last_is h d e (cc)
 
-idle : (w : World) (s u : SysState) (n : ℕ) → IsSystem w u.history u.device u.machine → IsThreadStep w s.history u.history s.device u.device s.machine u.machine n → AreRefusalsIdle w s u
+idle : (w : World) (s u : SysState) (n : ℕ) → IsSystem w u.history u.machine → IsThreadStep w s.history u.history s.machine u.machine n → AreRefusalsIdle w s u
 idle w s u n now is t c e next =
     let event_is : is.event ≡ event.Call t c (reply.Error e) = last_is s.history is.event (event.Call t c (reply.Error e)) (sym is.history ∙ next) in
     let may : May SameButWords w (state_after w s.history) (event.Call t c (reply.Error e)) = subst (May SameButWords w (state_after w s.history)) event_is is.enabled in (
-      is.device,
       is.machine ∙ ap (after_host w (state_after w s.history).desk s.machine) event_is
           ∙ by_refusal w (state_after w s.history) s.machine c e (refusal w (state_after w s.history).desk c) refl may.2,
       subst (λ h. HasNoEffect (state_after w s.history) (state_after w h) t c) (sym next)
           (refused_calls_have_no_effect w s.history t c e (subst (λ h. IsRunButWords w h) next now.run)),
     )
 
-pub refusals : {D : Type 0} (state : D → VkState) (machine : D → Machine) (rest_of : D → ℕ) (n : ℕ) (s u : SysView D) (res : Result ⊤ SysFault) →
-    IsSystem u.world u.history (state u.device) (machine u.device) → OnOk res (WasTaken state machine rest_of (step.Thread n) s u) → OnOk res (AreRefusalsIdle s.world (state_of state machine s) (state_of state machine u))
-refusals state machine rest_of n s u (Ok x) now taken =
-    idle s.world (state_of state machine s) (state_of state machine u) n (subst (λ w. IsSystem w u.history (state u.device) (machine u.device)) taken.world now) taken.goes
-refusals state machine rest_of n s u (Err x) now taken = tt
+pub refusals : {D : Type 0} (n : ℕ) (s u : SysView D) (res : Result ⊤ SysFault) →
+    IsSystem u.world u.history u.device.state → OnOk res (WasTaken (step.Thread n) s u) → OnOk res (AreRefusalsIdle s.world (state_of s) (state_of u))
+refusals n s u (Ok x) now taken =
+    idle s.world (state_of s) (state_of u) n (subst (λ w. IsSystem w u.history u.device.state) taken.world now) taken.goes
+refusals n s u (Err x) now taken = tt

@@ -51,7 +51,7 @@ use Rattle.vk_port.specs.declared.steps.Stepped.TheVariants.{Passed, Ran, Bumped
 use Rattle.vk_port.specs.After.{after_command, after_found}
 use Rattle.vk_port.specs.Agreement.{Agree, host_numbers}
 use Rattle.vk_port.specs.Journal.{command_fits, of_queue, first_number}
-use Rattle.vk_port.specs.Machine.{vk_step, after_stepped}
+use Rattle.vk_port.specs.Machine.{shown, vk_step, after_stepped}
 use Rattle.vk_port.specs.Meaning.{IsEnabled}
 use Rattle.vk_port.specs.Offers.{IsInside}
 use Rattle.vk_port.specs.Reads.{AreKnown}
@@ -65,11 +65,12 @@ use Rattle.sys_core.specs.Ahead.{IsQuiet, is_good_access}
 use Rattle.sys_core.specs.Consistent.{IsDevice, finished_of}
 use Rattle.sys_core.specs.Host.{after_store, after_load, told_words}
 use Rattle.sys_core.specs.InOrder.{is_single}
+use Rattle.sys_core.specs.Opened.{opened}
 use Rattle.sys_core.specs.Lowering.{plan_buffers, plan_number, plan_of_world, startup, lower_record, lower_commands, lowered_commands, trailing, opening_batches}
 use Rattle.sys_core.specs.Machine.{words_count, IsMachine, HasBuffers}
 use Rattle.sys_core.specs.Memory.{memory_of}
 use Rattle.sys_core.specs.Stands.{StandsAt}
-use Rattle.sys_core.specs.Steps.{after_vk_submits}
+use Rattle.sys_core.specs.Steps.{after_submits}
 use Rattle.vk_port.specs.Words.{first_words, words_after}
 use Rattle.sys_core.proofs.Ahead.{called_now, first_buffers}
 use Rattle.sys_core.proofs.AheadSteps.{words_stored}
@@ -86,8 +87,8 @@ use Rattle.sys_core.proofs.Spread.{memory_read, lives_at, number_within}
 use Rattle.sys_core.proofs.Startup.{begins_of, opening_is, opening_none}
 
 -- known words have the sizes of the world's buffers
-pub known_sizes : (w : World) (v : VkState) (m : Machine) (words : List (List ℕ)) → IsMachine w v m → AreKnown m words → map length words ≡ map words_count (plan_buffers w.resources)
-known_sizes w v m words is known = sym (each words) ∙ sym (ap (map length) known) ∙ is.sizes
+pub known_sizes : (w : World) (m : Machine) (words : List (List ℕ)) → IsMachine w m → AreKnown m words → map length words ≡ map words_count (plan_buffers w.resources)
+known_sizes w m words is known = sym (each words) ∙ sym (ap (map length) known) ∙ is.sizes
   where
     each : (xs : List (List ℕ)) → map length (map known_numbers xs) ≡ map length xs
     each [] = refl
@@ -174,8 +175,8 @@ known_command w m q n k (Clear target word) words plan fits inside at copy known
 known_command w m q n k (Dispatch routine count t0 t1 u0 b0) words plan fits inside at copy known = absurd (cc)
 
 -- what a step of the device leaves of known words, and of a settled queue
-pub record StaysKnown (v : VkState) (m : Machine) (q : ℕ) (s : Stepped) (words : List (List ℕ)) : Type 0 where
-  pub known : AreKnown (after_stepped m s []) (words_after v s words)
+pub record StaysKnown (m : Machine) (q : ℕ) (s : Stepped) (words : List (List ℕ)) : Type 0 where
+  pub known : AreKnown (after_stepped m s []) (words_after (shown m) s words)
   pub settled : IsSettled (after_stepped m s []) q
 
 -- the step of a queue, where it is a command
@@ -185,36 +186,36 @@ IsOn q (Ran p n k) = p ≡ q
 IsOn q (Bumped p n) = Unit {0}
 IsOn q Free = Unit {0}
 
-pub known_step : (w : World) (h : List Event) (v : VkState) (m : Machine) (q : ℕ) (s : Stepped) (words : List (List ℕ)) → IsDevice w h v → IsMachine w v m → IsEnabled v s → 0 < length w.queues →
-    IsOn q s → IsSettled m q → AreKnown m words → StaysKnown v m q s words
-known_step w h v m q (Passed p n) words device is enabled some on settled known =
-    let step : (x : VkStep) × (vk_step (Passed p n) [] ≡ Some x) × (is_enabled m x ≡ true) = step_enabled w v m (Passed p n) is enabled in
+pub known_step : (w : World) (h : List Event) (m : Machine) (q : ℕ) (s : Stepped) (words : List (List ℕ)) → IsDevice w h (shown m) → IsMachine w m → IsEnabled (shown m) s → 0 < length w.queues →
+    IsOn q s → IsSettled m q → AreKnown m words → StaysKnown m q s words
+known_step w h m q (Passed p n) words device is enabled some on settled known =
+    let step : (x : VkStep) × (vk_step (Passed p n) [] ≡ Some x) × (is_enabled m x ≡ true) = step_enabled w m (Passed p n) is enabled in
     let same : step.0 ≡ vk.Pass p n = grind arith in
     record {
       known = ap (λ (ns : Numbers). ns.buffers) ((steps_keep m).pass p n) ∙ known;
       settled = stays_settled m q (vk.Pass p n) is.begins settled (subst (λ x. is_enabled m x ≡ true) same step.2) tt tt;
     }
-known_step w h v m q (Ran p n k) words device is e some on settled known =
-    let step : (x : VkStep) × (vk_step (Ran p n k) [] ≡ Some x) × (is_enabled m x ≡ true) = step_enabled w v m (Ran p n k) is e in
+known_step w h m q (Ran p n k) words device is e some on settled known =
+    let step : (x : VkStep) × (vk_step (Ran p n k) [] ≡ Some x) × (is_enabled m x ≡ true) = step_enabled w m (Ran p n k) is e in
     let same : step.0 ≡ vk.Command p n k [] = grind arith in
     let enabled : is_enabled m (vk.Command p n k []) ≡ true = subst (λ x. is_enabled m x ≡ true) same step.2 in
-    let runs : IsRunning v m p n k e = running_is v m p n k device.valid is.shows e in
+    let runs : IsRunning m p n k e = running_is m p n k device.valid e in
     let fits : command_fits m.plan e.command ≡ true = command_does m p (record { number = n; index = k }) e.command is.counted.fit runs.command in
     let here : IsSettled m p = subst (IsSettled m) (sym on) settled in
     record {
       known = subst (λ o. AreKnown (after_vk_step m (vk.Command p n k [])) (after_found o words)) (sym runs.seen)
-          (known_command w m p n k e.command words is.plan fits (batch_inside w h v p runs.index (k - 1) e.running.batch e.command device some runs.at e.is_command) runs.command
+          (known_command w m p n k e.command words is.plan fits (batch_inside w h (shown m) p runs.index (k - 1) e.running.batch e.command device some runs.at e.is_command) runs.command
           (λ to to_first from from_first count copy ends. settled_copies_known m p n k [] to to_first from from_first count words is.begins here (runs.command ∙ ap (λ c. Some c) copy) enabled ends known) known);
       settled = stays_settled m q (vk.Command p n k []) is.begins settled enabled tt on;
     }
-known_step w h v m q (Bumped p n) words device is enabled some on settled known =
-    let step : (x : VkStep) × (vk_step (Bumped p n) [] ≡ Some x) × (is_enabled m x ≡ true) = step_enabled w v m (Bumped p n) is enabled in
+known_step w h m q (Bumped p n) words device is enabled some on settled known =
+    let step : (x : VkStep) × (vk_step (Bumped p n) [] ≡ Some x) × (is_enabled m x ≡ true) = step_enabled w m (Bumped p n) is enabled in
     let same : step.0 ≡ vk.Bump p n = grind arith in
     record {
       known = ap (λ (ns : Numbers). ns.buffers) ((steps_keep m).end p n) ∙ known;
-      settled = stays_settled m q (vk.Bump p n) is.begins settled (subst (λ x. is_enabled m x ≡ true) same step.2) (step_fits w h v m (Bumped p n) (vk.Bump p n) device is enabled refl) tt;
+      settled = stays_settled m q (vk.Bump p n) is.begins settled (subst (λ x. is_enabled m x ≡ true) same step.2) (step_fits w h m (Bumped p n) (vk.Bump p n) device is enabled refl) tt;
     }
-known_step w h v m q Free words device is enabled some on settled known = absurd enabled
+known_step w h m q Free words device is enabled some on settled known = absurd enabled
 
 -- the batch of an operation of at most one command is simple
 pub simple_batch : (w : World) (b : Batch) (o : Operation) (s : ℕ × ℕ) → b.commands ≡ lowered_commands w o → b.sets ≡ s ∷ [] → is_single o ≡ true → IsSimple b
@@ -236,12 +237,12 @@ simple_batch w b (Execute cs) s commands sets single = inr (record {
     plain (c ∷ cs) = and_of (copies_words (lower_record w c.what)) (list_all copies_words (lower_commands w cs)) (by_record c.what) (plain cs)
 
 -- where no called operation is incomplete, each batch that has commands has ended
-pub quiet_finished : (w : World) (h : List Event) (v : VkState) (m : Machine) → IsRunButWords w h → IsDevice w h v → IsMachine w v m → IsQuiet (state_after w h) → HasFinished m 0
-quiet_finished w h v m run device is quiet n b found left =
+pub quiet_finished : (w : World) (h : List Event) (m : Machine) → IsRunButWords w h → IsDevice w h (shown m) → IsMachine w m → IsQuiet (state_after w h) → HasFinished m 0
+quiet_finished w h m run device is quiet n b found left =
     elim (cases_lt 0 (length w.queues)) [
       | inl some ↦ with_queue some
       | inr none ↦
-          let few : length m.queues ≤ 0 = omega (arith, sym (queues_many m v is.shows), device.objects.lanes, none) in
+          let few : length m.queues ≤ 0 = omega (arith, sym (queues_many m), device.objects.lanes, none) in
           let none_there : (counts_of m 0).submitted ≡ 0 = no_queue m.queues few in
           absurd (omega (arith, is.begins.passed.numbered 0 n b found, none_there))
     ]
@@ -253,13 +254,12 @@ quiet_finished w h v m run device is quiet n b found left =
     with_queue : 0 < length w.queues → b.commands ≡ []
     with_queue some =
         let rest : List Batch = device.stands.rest in
-        let at : StandsAt w h rest v 0 = device.stands.queues 0 some in
-        let begins : v.journal ≡ startup w ∷ rest = begins_of w h v device.stands some in
-        let mine : m.journal ≡ startup w ∷ rest = sym is.shows.journal ∙ begins in
+        let at : StandsAt w h rest (shown m) 0 = device.stands.queues 0 some in
+        let mine : m.journal ≡ startup w ∷ rest = begins_of w h (shown m) device.stands some in
         let called : drop (counter h 0) (operations w h 0) ≡ [] = sym (called_now w h run some) ∙ quiet.none_called 0 in
         let through : length (operations w h 0) - counter h 0 ≡ 0 = sym (length-drop (counter h 0) (operations w h 0)) ∙ ap length called in
-        let queue : 0 < length m.queues = omega (arith, queues_many m v is.shows, device.objects.lanes, some) in
-        let ended : (counts_of m 0).ended ≡ first_number 0 + finished_of v 0 = ended_is m v 0 is.shows is.counted queue in
+        let queue : 0 < length m.queues = omega (arith, queues_many m, device.objects.lanes, some) in
+        let ended : (counts_of m 0).ended ≡ first_number 0 + finished_of (shown m) 0 = ended_is m 0 is.counted queue in
         let below : n < (counts_of m 0).submitted = is.begins.passed.numbered 0 n b found in
         let long : length (of_queue 0 m.journal) ≡ suc (length (of_queue 0 rest)) = ap (λ j. length (of_queue 0 j)) mine in
         let zeroth : n ≡ 0 = omega (arith, below, is.counted.next 0 queue, long, ended, left, device.finished 0 some, through, at.of_called) in
@@ -317,11 +317,11 @@ stores_good w m lists (call.Write b offset ws) None x plan has is at =
     })
 
 -- the machine's words and the queue after what a call stores
-store_kept : (w : World) (v : VkState) (m : Machine) (o : Option (At (ℕ × List ℕ))) (words : List (List ℕ)) → IsMachine w v m → IsSettled m 0 → AreKnown m words →
+store_kept : (w : World) (m : Machine) (o : Option (At (ℕ × List ℕ))) (words : List (List ℕ)) → IsMachine w m → IsSettled m 0 → AreKnown m words →
     ((x : At (ℕ × List ℕ)) → o ≡ Some x → HasFinished m 0 × (host_passes_end m (plan_number w x.place) x.what.0 (length x.what.1) ≡ false)) →
     IsSettled (after_store w m o) 0 × AreKnown (after_store w m o) (words_stored w o words)
-store_kept w v m None words is settled known where_stored = (settled, known)
-store_kept w v m (Some x) words is settled known where_stored =
+store_kept w m None words is settled known where_stored = (settled, known)
+store_kept w m (Some x) words is settled known where_stored =
     let good : HasFinished m 0 × (host_passes_end m (plan_number w x.place) x.what.0 (length x.what.1) ≡ false) = where_stored x refl in (
       stays_settled m 0 (vk.HostWrite (plan_number w x.place) x.what.0 x.what.1) is.begins settled refl tt good.0,
       host_writes_known m (plan_number w x.place) x.what.0 x.what.1 words good.1 known,
@@ -331,33 +331,33 @@ finished_stays : (w : World) (m : Machine) (o : Option (At (ℕ × List ℕ))) �
 finished_stays w m None is = is
 finished_stays w m (Some x) is = is
 
-load_kept : (w : World) (v : VkState) (m : Machine) (o : Option (At (ℕ × ℕ))) (r : Reply) (words : List (List ℕ)) → IsMachine w v m → IsSettled m 0 → AreKnown m words →
+load_kept : (w : World) (m : Machine) (o : Option (At (ℕ × ℕ))) (r : Reply) (words : List (List ℕ)) → IsMachine w m → IsSettled m 0 → AreKnown m words →
     ((x : At (ℕ × ℕ)) → o ≡ Some x → HasFinished m 0) → IsSettled (after_load w m o r) 0 × AreKnown (after_load w m o r) words
-load_kept w v m None r words is settled known where_read = (settled, known)
-load_kept w v m (Some x) r words is settled known where_read = (
+load_kept w m None r words is settled known where_read = (settled, known)
+load_kept w m (Some x) r words is settled known where_read = (
   stays_settled m 0 (vk.HostRead (plan_number w x.place) x.what.0 (told_words r)) is.begins settled refl tt (where_read x refl),
   ap (λ (ns : Numbers). ns.buffers) ((steps_keep m).host_read (plan_number w x.place) x.what.0 (told_words r)) ∙ known,
 )
 
 -- a call that is served, whose accesses come where each batch that has commands has ended
-pub call_kept : (w : World) (v : VkState) (m : Machine) (lists : List Listed) (c : Call) (r : Reply) (words : List (List ℕ)) → IsWorld w → IsMachine w v m → IsSettled m 0 → AreKnown m words →
+pub call_kept : (w : World) (m : Machine) (lists : List Listed) (c : Call) (r : Reply) (words : List (List ℕ)) → IsWorld w → IsMachine w m → IsSettled m 0 → AreKnown m words →
     ((is_good_access (refusal_by w lists c) c ≡ true) → HasFinished m 0) →
     IsSettled (after_load w (after_store w m (done w lists c).stores) (done w lists c).reads r) 0
     × AreKnown (after_load w (after_store w m (done w lists c).stores) (done w lists c).reads r) (words_stored w (done w lists c).stores words)
-call_kept w v m lists c r words world is settled known quiet =
+call_kept w m lists c r words world is settled known quiet =
     let o : Option (At (ℕ × List ℕ)) = (done w lists c).stores in
     let u : Machine = after_store w m o in
     let has : HasBuffers w m = has_buffers w m world is.sizes in
-    let stored : IsSettled u 0 × AreKnown u (words_stored w o words) = store_kept w v m o words is settled known
+    let stored : IsSettled u 0 × AreKnown u (words_stored w o words) = store_kept w m o words is settled known
     (λ x at. let good : StoresGood w m c (refusal_by w lists c) x = stores_good w m lists c (refusal_by w lists c) x is.plan has refl at in (quiet good.good, good.inside)) in
-    load_kept w v u (done w lists c).reads r (words_stored w o words) (machine_store w v m o is) stored.0 stored.1
+    load_kept w u (done w lists c).reads r (words_stored w o words) (machine_store w m o is) stored.0 stored.1
     (λ x at. let good : ReadsGood w c (refusal_by w lists c) x = reads_good w lists c (refusal_by w lists c) x refl at in finished_stays w m o (quiet good.good))
 
 -- what the host reads is the memory's words
-pub read_is_memory : (w : World) (m : Machine) (v : VkState) (lists : List Listed) (c : Call) (words memory : List (List ℕ)) → IsMachine w v m → IsSettled m 0 → AreKnown m words →
+pub read_is_memory : (w : World) (m : Machine) (lists : List Listed) (c : Call) (words memory : List (List ℕ)) → IsMachine w m → IsSettled m 0 → AreKnown m words →
     ((is_good_access (refusal_by w lists c) c ≡ true) → HasFinished m 0 × (memory_of w words ≡ memory)) → (x : At (ℕ × ℕ)) → (done w lists c).reads ≡ Some x → (ws : List ℕ) →
     Agree ws (host_numbers m (plan_number w x.place) x.what.0 x.what.1) → ws ≡ range_of x.what.0 x.what.1 (words_at memory x.place)
-read_is_memory w m v lists c words memory is settled known quiet x at ws agree =
+read_is_memory w m lists c words memory is settled known quiet x at ws agree =
     let good : ReadsGood w c (refusal_by w lists c) x = reads_good w lists c (refusal_by w lists c) x refl at in
     let calm : HasFinished m 0 × (memory_of w words ≡ memory) = quiet good.good in
     let b : ℕ = plan_number w x.place in
@@ -375,15 +375,14 @@ first_known (b ∷ bs) = ap (λ ns. ns ∷ map (λ (b : PlanBuffer). replicate b
     zeros (suc n) = ap (λ ns. Some 0 ∷ ns) (zeros n)
 
 -- the start
-pub first_kept : (w : World) → IsSettled (after_vk_submits (first_machine (plan_of_world w)) (opening_batches w)) 0
-    × AreKnown (after_vk_submits (first_machine (plan_of_world w)) (opening_batches w)) (first_buffers w)
+pub first_kept : (w : World) → IsSettled (opened w) 0 × AreKnown (opened w) (first_buffers w)
 first_kept w =
     let m : Machine = first_machine (plan_of_world w) in
     let at_first : IsSettled m 0 = first_settled m 0 (devices_begin (plan_of_world w)) in
     elim (cases_lt 0 (length w.queues)) [
       | inl some ↦
-          subst (λ bs. IsSettled (after_vk_submits m bs) 0 × AreKnown (after_vk_submits m bs) (first_buffers w)) (sym (opening_is w some))
+          subst (λ bs. IsSettled (after_submits m bs) 0 × AreKnown (after_submits m bs) (first_buffers w)) (sym (opening_is w some))
           (stays_settled m 0 (vk.Submit (startup w)) (first_is w).begins at_first refl (startup_goes w some) (λ _. inl refl), first_known (plan_buffers w.resources))
       | inr none ↦
-          subst (λ bs. IsSettled (after_vk_submits m bs) 0 × AreKnown (after_vk_submits m bs) (first_buffers w)) (sym (opening_none w none)) (at_first, first_known (plan_buffers w.resources))
+          subst (λ bs. IsSettled (after_submits m bs) 0 × AreKnown (after_submits m bs) (first_buffers w)) (sym (opening_none w none)) (at_first, first_known (plan_buffers w.resources))
     ]

@@ -6,9 +6,19 @@ use Rattle.d3d_machine.specs.declared.world.World.{World}
 use Rattle.d3d_machine.specs.declared.events.Event.{Event}
 use Rattle.d3d_machine.specs.World.{HasOneQueueAtMost}
 use Rattle.vk_types.specs.declared.batches.Batch.{Batch}
-use Rattle.vk_port.specs.VkState.{VkState}
-use Rattle.sys_core.specs.Lowering.{startup, opening_batches}
+use Rattle.vk_port.specs.After.{after_submit}
+use Rattle.vk_port.specs.VkState.{VkState, first_state}
+use Rattle.sys_core.specs.Lowering.{plan_of_world, startup, opening_batches}
 use Rattle.sys_core.specs.Stands.{Stands}
+
+-- what is shown of the machine after batches were submitted
+abbrev pub after_submissions : VkState → List Batch → VkState
+after_submissions v [] = v
+after_submissions v (b ∷ bs) = after_submissions (after_submit v b) bs
+
+-- what is shown of the machine before any call
+abbrev pub opened_view : World → VkState
+opened_view w = after_submissions (first_state (plan_of_world w)) (opening_batches w)
 
 -- with a queue, the start-up batch
 pub opening_is : (w : World) → 0 < length w.queues → opening_batches w ≡ startup w ∷ []

@@ -1,5 +1,5 @@
 -- How each step counts.
-use Rattle.std.proofs.Common.{ℕ, zero, suc, ◌≡◌, ◌<◌, ◌≤◌, ◌+◌, ◌∙◌, ap, refl, arith, List, [], ◌∷◌, ◌++◌, length, Some, Bool, true, false, replicate, append-nil, ◌⊎◌, inl, inr}
+use Rattle.std.proofs.Common.{ℕ, zero, suc, ◌≡◌, ◌<◌, ◌≤◌, ◌+◌, ◌∙◌, ap, subst, sym, refl, arith, List, [], ◌∷◌, ◌++◌, length, Some, Bool, true, false, replicate, append-nil, ◌⊎◌, inl, inr}
 use Rattle.std.specs.Prelude.{if◌then◌else◌, nat_lt, ◌==◌}
 use Rattle.std.proofs.lemmas.Bool.Decides.{leb_tells, nat_tests}
 use Rattle.std.proofs.lemmas.Bool.{ltb-true}
@@ -27,8 +27,11 @@ use Rattle.vk_port.proofs.Falls.{falls, submit_left}
 use Rattle.vk_port.proofs.Valid.{first_valid}
 use Rattle.sys_core.specs.Goes.{SysState, tally}
 use Rattle.sys_core.specs.Lowering.{plan_of_world, startup}
+use Rattle.vk_port.specs.Machine.{shown}
 use Rattle.sys_core.specs.Opened.{opened}
-use Rattle.sys_core.specs.Steps.{step_events, after_submits}
+use Rattle.sys_core.specs.Steps.{step_events}
+use Rattle.sys_core.proofs.MachineSteps.{machine_open}
+use Rattle.sys_core.proofs.Startup.{after_submissions}
 use Rattle.sys_core.specs.StepCount.{rest_used, count_calls, count_wakings, batches_steps, AreCounted}
 
 -- the events of threads in a history
@@ -111,8 +114,8 @@ none_left zero = refl
 none_left (suc n) = omega (arith, none_left n)
 
 -- before any step
-pub counted_first : (w : World) (rest : ℕ) → AreCounted w rest rest 0 [] (opened w)
-counted_first w rest = record { equation = by_queue (nat_lt 0 (length w.queues)) refl }
+pub counted_first : (w : World) (rest : ℕ) → AreCounted w rest rest 0 [] (shown (opened w))
+counted_first w rest = subst (AreCounted w rest rest 0 []) (sym (machine_open w).1) (record { equation = by_queue (nat_lt 0 (length w.queues)) refl })
   where
     first : VkState
     first = first_state (plan_of_world w)
@@ -121,14 +124,14 @@ counted_first w rest = record { equation = by_queue (nat_lt 0 (length w.queues))
     submitted some = if some then startup w ∷ [] else []
 
     by_queue : (some : Bool) → nat_lt 0 (length w.queues) ≡ some →
-        (0 + steps_left (after_submits first (submitted some))) + (rest + length (submitted some))
-        ≡ (0 + 0) + (length (after_submits first (submitted some)).journal + batches_steps (after_submits first (submitted some)).journal) + rest
+        (0 + steps_left (after_submissions first (submitted some))) + (rest + length (submitted some))
+        ≡ (0 + 0) + (length (after_submissions first (submitted some)).journal + batches_steps (after_submissions first (submitted some)).journal) + rest
     by_queue false none = omega (arith, none_left (length w.queues))
     by_queue true some =
         let lane : 0 < length (replicate (length w.queues) no_lane) = omega (arith, length-replicate (length w.queues) no_lane, ltb-true 0 (length w.queues) some) in
         omega (arith, none_left (length w.queues), submit_left first (startup w) (first_valid (plan_of_world w)) lane)
 
 -- one step more
-pub counted_more : (w : World) (rest before after steps more : ℕ) (s u : SysState) → more ≡ steps + 1 → AreCounted w rest before steps s.history s.device →
-    (tally u.history u.device + steps_left s.device) + before ≡ (tally s.history s.device + steps_left u.device) + (after + 1) → AreCounted w rest after more u.history u.device
+pub counted_more : (w : World) (rest before after steps more : ℕ) (s u : SysState) → more ≡ steps + 1 → AreCounted w rest before steps s.history (shown s.machine) →
+    (tally u.history (shown u.machine) + steps_left (shown s.machine)) + before ≡ (tally s.history (shown s.machine) + steps_left (shown u.machine)) + (after + 1) → AreCounted w rest after more u.history (shown u.machine)
 counted_more w rest before after steps more s u one counted counts = record { equation = omega (arith, one, counted.equation, counts) }

@@ -19,9 +19,9 @@ use Rattle.d3d_machine.specs.Effects.{done}
 use Rattle.d3d_machine.specs.Play.{state_after}
 use Rattle.d3d_machine.proofs.Shape.{run_has_shape}
 use Rattle.d3d_machine.proofs.Named.{next_is_named}
-use Rattle.vk_types.specs.declared.plan.DevicePlan.{DevicePlan}
 use Rattle.vk_sync_rules.specs.VkState.{VkState as Machine}
-use Rattle.vk_port.specs.VkState.{VkState}
+use Rattle.vk_port.specs.DeviceView.{DeviceView}
+use Rattle.vk_port.specs.Machine.{shown}
 use Rattle.sys_core.specs.declared.parts.Armed.{Armed}
 use Rattle.sys_core.specs.declared.parts.Seat.{Seat}
 use Rattle.sys_core.specs.declared.parts.Parts.{Parts}
@@ -42,7 +42,7 @@ pub seat_written : (fences : List (List ℕ)) (c : Call) (seats : List Seat) (t 
     set seats t y ≡ changed_at (seat_after fences c) t seats
 seat_written fences c seats t s y at is = ap (set seats t) is ∙ set_is_changed (seat_after fences c) seats t s at
 
-module _ {D : Type 0} (state : D → VkState) (machine : D → Machine) (plan_of : D → Option DevicePlan) (w : World) (h : List Event) (p : Parts) (d : D) (keeps : Keeps state machine plan_of w h p d) where
+module _ (w : World) (h : List Event) (p : Parts) (d : DeviceView) (keeps : Keeps w h p d) where
   seats_length : length p.seats ≡ length w.scripts
   seats_length = seats_many w h p.lists p.seats (map updates_in p.fences) keeps.consistent.past_is
 
@@ -71,17 +71,17 @@ module _ {D : Type 0} (state : D → VkState) (machine : D → Machine) (plan_of
   call_left t s at waits ready =
       let seat : ℕ → Option Armed → Seat = λ m o. record { made = m; waits = o } in
       ltb-true s.made (length (script_of w t))
-      (sym (ap (λ o. ready_by (script_of w t) (map updates_in p.fences) (seat s.made o)) waits) ∙ ready_is state machine plan_of w h p d t s keeps at ∙ ready)
+      (sym (ap (λ o. ready_by (script_of w t) (map updates_in p.fences) (seat s.made o)) waits) ∙ ready_is w h p d t s keeps at ∙ ready)
 
   -- the machine's place of a thread that does not wait
   pub next_is : (t : ℕ) (s : Seat) (c : Call) → slice_get p.seats t ≡ Some s → slice_get (script_of w t) s.made ≡ Some c → next_call w (state_after w h).desk t ≡ Some c
-  next_is t s c at next = ap (λ (x : Place). slice_get (script_of w t) x.made) (place_is w h p (state d) t s keeps.consistent at) ∙ next
+  next_is t s c at next = ap (λ (x : Place). slice_get (script_of w t) x.made) (place_is w h p (shown d.state) t s keeps.consistent at) ∙ next
 
   pub waits_is : (t : ℕ) (s : Seat) → slice_get p.seats t ≡ Some s → (place_of (state_after w h).desk t).waits ≡ option_map (waiting_from (map updates_in p.fences)) (option_map wait_since s.waits)
-  waits_is t s at = ap (λ (x : Place). x.waits) (place_is w h p (state d) t s keeps.consistent at)
+  waits_is t s at = ap (λ (x : Place). x.waits) (place_is w h p (shown d.state) t s keeps.consistent at)
 
-  pub buffers_are : HasBuffers w (machine d)
-  buffers_are = has_buffers w (machine d) keeps.consistent.world keeps.machine_is.sizes
+  pub buffers_are : HasBuffers w d.state
+  buffers_are = has_buffers w d.state keeps.consistent.world keeps.machine_is.sizes
 
   pub lists_count : length p.lists ≡ length w.lists
   lists_count = ap length lists_are ∙ (run_has_shape w h).desk.lists
@@ -94,32 +94,30 @@ module _ {D : Type 0} (state : D → VkState) (machine : D → Machine) (plan_of
 
   -- the step of a thread that waits
   pub step_awake : (t : ThreadId) (s : Seat) (a : Armed) (k : List Event) → slice_get p.seats t.0 ≡ Some s → s.waits ≡ Some a → is_ready_thread w h t.0 ≡ true →
-      k ≡ h ++ event.Awake t ∷ [] → IsThreadStep w h k (state d) (state d) (machine d) (machine d) t.0
+      k ≡ h ++ event.Awake t ∷ [] → IsThreadStep w h k d.state d.state t.0
   step_awake t s a k at waits ready history = record {
     event = event.Awake t;
     of_thread = refl;
-    enabled = may_awake state machine plan_of w h p d t s a keeps at waits ready;
+    enabled = may_awake w h p d t s a keeps at waits ready;
     words = tt;
     history = history;
-    device = refl;
     machine = refl;
   }
 
   -- the step of a thread that makes its next call
-  pub step_call : (t : ThreadId) (s : Seat) (c : Call) (r : Reply) (k : List Event) (u : VkState) (n : Machine) → slice_get p.seats t.0 ≡ Some s → s.waits ≡ None →
-      slice_get (script_of w t.0) s.made ≡ Some c → IsReply w p.lists (map updates_in p.fences) (machine d) c r → k ≡ h ++ event.Call t c r ∷ [] → u ≡ state d →
-      n ≡ after_call w p.lists (machine d) c r → IsThreadStep w h k (state d) u (machine d) n t.0
-  step_call t s c r k u n at waits next answers history device after = record {
+  pub step_call : (t : ThreadId) (s : Seat) (c : Call) (r : Reply) (k : List Event) (n : Machine) → slice_get p.seats t.0 ≡ Some s → s.waits ≡ None →
+      slice_get (script_of w t.0) s.made ≡ Some c → IsReply w p.lists (map updates_in p.fences) d.state c r → k ≡ h ++ event.Call t c r ∷ [] →
+      n ≡ after_call w p.lists d.state c r → IsThreadStep w h k d.state n t.0
+  step_call t s c r k n at waits next answers history after = record {
     event = event.Call t c r;
     of_thread = refl;
     enabled = (
       waits_is t.0 s at ∙ ap (λ o. option_map (waiting_from (map updates_in p.fences)) (option_map wait_since o)) waits,
       next_is t.0 s c at next,
-      reply_seen state machine plan_of w h p d c r keeps answers,
+      reply_seen w h p d c r keeps answers,
     );
-    words = subst (λ ls. HasWords w (machine d) (done w ls c).reads r) lists_are
-        (tells_words w (machine d) (done w p.lists c).reads (reply_by w p.lists (map updates_in p.fences) c) r answers);
+    words = subst (λ ls. HasWords w d.state (done w ls c).reads r) lists_are
+        (tells_words w d.state (done w p.lists c).reads (reply_by w p.lists (map updates_in p.fences) c) r answers);
     history = history;
-    device = device;
-    machine = after ∙ ap (λ ls. after_call w ls (machine d) c r) lists_are;
+    machine = after ∙ ap (λ ls. after_call w ls d.state c r) lists_are;
   }

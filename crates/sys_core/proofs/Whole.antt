@@ -30,25 +30,27 @@ use Rattle.vk_port.specs.declared.steps.Stepped.{Stepped}
 use Rattle.vk_port.specs.declared.steps.Stepped.TheVariants.{Passed, Ran, Bumped, Free}
 use Rattle.vk_port.specs.After.{after_step, after_submit}
 use Rattle.vk_port.specs.Enabled.{enabled_steps}
-use Rattle.vk_port.specs.Machine.{after_stepped}
+use Rattle.vk_port.specs.Machine.{shown, after_stepped}
 use Rattle.vk_port.specs.Meaning.{IsEnabled}
 use Rattle.vk_port.specs.Reads.{AreKnown}
 use Rattle.vk_port.specs.Settled.{IsSettled}
-use Rattle.vk_port.specs.VkState.{VkState}
+use Rattle.vk_port.specs.VkState.{VkState, lane_of}
 use Rattle.vk_port.proofs.Enabled.{enabled_means}
 use Rattle.vk_port.proofs.SettledSteps.{stays_settled}
 use Rattle.sys_core.specs.Lowering.{plan_buffers, lowered_commands}
 use Rattle.sys_core.specs.Machine.{IsMachine}
 use Rattle.sys_core.specs.Memory.{memory_of}
 use Rattle.sys_core.specs.Host.{after_call}
-use Rattle.sys_core.specs.Opened.{opened, opened_machine}
+use Rattle.sys_core.specs.Opened.{opened}
+use Rattle.sys_core.proofs.Startup.{opened_view}
+use Rattle.sys_core.proofs.MachineSteps.{call_shown, machine_open, shown_step}
 use Rattle.sys_core.specs.Steps.{submitted_of, step_events}
 use Rattle.sys_core.specs.ThreadSteps.{IsOf, HasWords, TellsWords, after_host, IsThreadStep}
 use Rattle.sys_core.specs.Consistent.{IsDevice}
 use Rattle.sys_core.specs.Ahead.{AreAhead, IsAhead, IsQuiet, is_good_access, is_host_access, AreQuietFrom, AreHostAccessesQuiet, IsCalm, IsWhole}
 use Rattle.sys_core.proofs.Ahead.{device_within, called_now, drop_past, ahead_first, ahead_awake, idle_words, first_buffers}
 use Rattle.sys_core.proofs.NoQueue.{no_queue_event, no_queue_idle, quiet_words}
-use Rattle.sys_core.specs.InOrder.{is_single, is_short}
+use Rattle.sys_core.specs.InOrder.{are_in_order, is_single, is_short}
 use Rattle.sys_core.proofs.InOrder.{all_front}
 use Rattle.sys_core.proofs.Orderly.{lowered_is_short, order_first, order_submit}
 use Rattle.sys_core.proofs.AheadSteps.{ahead_call, ahead_submit, StaysAhead, ahead_step, at_first, memory_stored, some_queue, words_stored}
@@ -146,102 +148,108 @@ words_awake w h v words t world run now device is =
     ]
 
 -- the start
-pub whole_first : (w : World) → IsWhole w [] (opened w) (opened_machine w)
-whole_first w = record {
-  run = λ _. tt;
-  words = λ _. record { words = first_buffers w; known = (first_kept w).1; are = ahead_first w };
-  in_order = λ _. order_first w;
-  settled = λ _. (first_kept w).0;
-}
+pub whole_first : (w : World) → IsWhole w [] (opened w)
+whole_first w =
+    let same : shown (opened w) ≡ opened_view w = (machine_open w).1 in
+    record {
+      run = λ _. tt;
+      words = λ _. record { words = first_buffers w; known = (first_kept w).1; are = subst (λ v. AreAhead w [] v (first_buffers w)) (sym same) (ahead_first w) };
+      in_order = λ _. ap (λ (v : VkState). are_in_order (lane_of v 0).batches) same ∙ order_first w;
+      settled = λ _. (first_kept w).0;
+    }
 
 -- a call that is served, with a reply whose words agree with what the host reads
-whole_call : (w : World) (h : List Event) (v : VkState) (m : Machine) (t : ThreadId) (c : Call) (r : Reply) → IsWorld w → IsRunButWords w h → IsDevice w h v → IsMachine w v m →
+whole_call : (w : World) (h : List Event) (m : Machine) (t : ThreadId) (c : Call) (r : Reply) → IsWorld w → IsRunButWords w h → IsDevice w h (shown m) → IsMachine w m →
     May SameButWords w (state_after w h) (event.Call t c r) → HasWords w m (done w (state_after w h).desk.lists c).reads r →
-    IsWhole w h v m → IsWhole w (h ++ event.Call t c r ∷ []) v (after_call w (state_after w h).desk.lists m c r)
-whole_call w h v m t c r world run device machine may has is =
+    IsWhole w h m → IsWhole w (h ++ event.Call t c r ∷ []) (after_call w (state_after w h).desk.lists m c r)
+whole_call w h m t c r world run device machine may has is =
+    let v : VkState = shown m in
     let e : Event = event.Call t c r in
     let s : State = state_after w h in
     let now : IsRunButWords w (h ++ e ∷ []) = run_append w h e run may in
     let front : IsCalm w (h ++ e ∷ []) → IsCalm w h = calm_front w h e in
-    let ahead : IsCalm w (h ++ e ∷ []) → IsAhead w h v m = λ calm. is.words (front calm) in
+    let same : shown (after_call w s.desk.lists m c r) ≡ v = call_shown w s.desk.lists m c r in
+    let ahead : IsCalm w (h ++ e ∷ []) → IsAhead w h m = λ calm. is.words (front calm) in
     let quiet : IsCalm w (h ++ e ∷ []) → (is_good_access (refusal w s.desk c) c ≡ true) → IsQuiet s = λ calm. quiet_last w h e calm.quiet in
     let kept : (calm : IsCalm w (h ++ e ∷ [])) → IsSettled (after_call w s.desk.lists m c r) 0 × AreKnown (after_call w s.desk.lists m c r) (words_stored w (done w s.desk.lists c).stores (ahead calm).words) =
-    λ calm. call_kept w v m s.desk.lists c r (ahead calm).words world machine (is.settled (front calm)) (ahead calm).known
-    (λ access. quiet_finished w h v m run device machine (quiet calm access)) in
+    λ calm. call_kept w m s.desk.lists c r (ahead calm).words world machine (is.settled (front calm)) (ahead calm).known
+    (λ access. quiet_finished w h m run device machine (quiet calm access)) in
     record {
       run = λ calm. plays_append SameReply w (first_state w) h e (is.run (front calm)) (
         may.0,
         may.1,
         reply_exact w m s c r may.2 has
-            (read_is_memory w m v s.desk.lists c (ahead calm).words s.memory machine (is.settled (front calm)) (ahead calm).known
-            (λ access. (quiet_finished w h v m run device machine (quiet calm access), quiet_words w h v (ahead calm).words world run device (ahead calm).are (quiet calm access)))),
+            (read_is_memory w m s.desk.lists c (ahead calm).words s.memory machine (is.settled (front calm)) (ahead calm).known
+            (λ access. (quiet_finished w h m run device machine (quiet calm access), quiet_words w h v (ahead calm).words world run device (ahead calm).are (quiet calm access)))),
       );
       words = λ calm. record {
         words = words_stored w (done w s.desk.lists c).stores (ahead calm).words;
         known = (kept calm).1;
-        are = words_call w h v (ahead calm).words t c r world run now device (as_many w (ahead calm).words (known_sizes w v m (ahead calm).words machine (ahead calm).known)) (quiet calm) (ahead calm).are;
+        are = subst (λ x. AreAhead w (h ++ e ∷ []) x (words_stored w (done w s.desk.lists c).stores (ahead calm).words)) (sym same)
+            (words_call w h v (ahead calm).words t c r world run now device (as_many w (ahead calm).words (known_sizes w m (ahead calm).words machine (ahead calm).known)) (quiet calm) (ahead calm).are);
       };
-      in_order = λ calm. is.in_order (front calm);
+      in_order = λ calm. ap (λ (x : VkState). are_in_order (lane_of x 0).batches) same ∙ is.in_order (front calm);
       settled = λ calm. (kept calm).0;
     }
 
 -- a thread that wakes
-whole_awake : (w : World) (h : List Event) (v : VkState) (m : Machine) (t : ThreadId) → IsWorld w → IsRunButWords w h → IsDevice w h v →
-    May SameButWords w (state_after w h) (event.Awake t) → IsWhole w h v m → IsWhole w (h ++ event.Awake t ∷ []) v m
-whole_awake w h v m t world run device may is =
+whole_awake : (w : World) (h : List Event) (m : Machine) (t : ThreadId) → IsWorld w → IsRunButWords w h → IsDevice w h (shown m) →
+    May SameButWords w (state_after w h) (event.Awake t) → IsWhole w h m → IsWhole w (h ++ event.Awake t ∷ []) m
+whole_awake w h m t world run device may is =
     let e : Event = event.Awake t in
-    let ahead : IsCalm w (h ++ e ∷ []) → IsAhead w h v m = λ calm. is.words (calm_front w h e calm) in
+    let ahead : IsCalm w (h ++ e ∷ []) → IsAhead w h m = λ calm. is.words (calm_front w h e calm) in
     record {
       run = λ calm. plays_append SameReply w (first_state w) h e (is.run (calm_front w h e calm)) may;
       words = λ calm. record {
         words = (ahead calm).words;
         known = (ahead calm).known;
-        are = words_awake w h v (ahead calm).words t world run (run_append w h e run may) device (ahead calm).are;
+        are = words_awake w h (shown m) (ahead calm).words t world run (run_append w h e run may) device (ahead calm).are;
       };
       in_order = λ calm. is.in_order (calm_front w h e calm);
       settled = λ calm. is.settled (calm_front w h e calm);
     }
 
-thread_event : (w : World) (h : List Event) (v : VkState) (m : Machine) (t : ℕ) (e : Event) → IsWorld w → IsRunButWords w h → IsDevice w h v → IsMachine w v m → IsOf t e →
-    May SameButWords w (state_after w h) e → TellsWords w (state_after w h).desk m e → IsWhole w h v m → IsWhole w (h ++ e ∷ []) v (after_host w (state_after w h).desk m e)
-thread_event w h v m t (event.Call u c r) world run device machine of_thread may tells is = whole_call w h v m u c r world run device machine may tells is
-thread_event w h v m t (event.Awake u) world run device machine of_thread may tells is = whole_awake w h v m u world run device may is
-thread_event w h v m t (event.Queue q) world run device machine of_thread may tells is = absurd of_thread
+thread_event : (w : World) (h : List Event) (m : Machine) (t : ℕ) (e : Event) → IsWorld w → IsRunButWords w h → IsDevice w h (shown m) → IsMachine w m → IsOf t e →
+    May SameButWords w (state_after w h) e → TellsWords w (state_after w h).desk m e → IsWhole w h m → IsWhole w (h ++ e ∷ []) (after_host w (state_after w h).desk m e)
+thread_event w h m t (event.Call u c r) world run device machine of_thread may tells is = whole_call w h m u c r world run device machine may tells is
+thread_event w h m t (event.Awake u) world run device machine of_thread may tells is = whole_awake w h m u world run device may is
+thread_event w h m t (event.Queue q) world run device machine of_thread may tells is = absurd of_thread
 
 -- a step of a thread
-pub whole_thread : (w : World) (h k : List Event) (v u : VkState) (m n : Machine) (t : ℕ) → IsWorld w → IsRunButWords w h → IsDevice w h v → IsMachine w v m → IsThreadStep w h k v u m n t →
-    IsWhole w h v m → IsWhole w k u n
-whole_thread w h k v u m n t world run device machine step is =
-    subst (λ x. IsWhole w k u x) (sym step.machine)
-    (subst (λ x. IsWhole w k x (after_host w (state_after w h).desk m step.event)) (sym step.device)
-    (subst (λ x. IsWhole w x v (after_host w (state_after w h).desk m step.event)) (sym step.history)
-    (thread_event w h v m t step.event world run device machine step.of_thread step.enabled step.words is)))
+pub whole_thread : (w : World) (h k : List Event) (m n : Machine) (t : ℕ) → IsWorld w → IsRunButWords w h → IsDevice w h (shown m) → IsMachine w m → IsThreadStep w h k m n t →
+    IsWhole w h m → IsWhole w k n
+whole_thread w h k m n t world run device machine step is =
+    subst (λ x. IsWhole w k x) (sym step.machine)
+    (subst (λ x. IsWhole w x (after_host w (state_after w h).desk m step.event)) (sym step.history)
+    (thread_event w h m t step.event world run device machine step.of_thread step.enabled step.words is))
 
 -- the submission of the next operation of a queue
-pub whole_submit : (w : World) (h : List Event) (v : VkState) (m : Machine) (q : ℕ) (b : Batch) (o : Operation) → IsDevice w h v → IsMachine w v m → q < length w.queues →
-    slice_get (operations w h q) (submitted_of v q) ≡ Some o → b.queue ≡ q → b.number ≡ submitted_of v q + 1 → b.commands ≡ lowered_commands w o → b.sets ≡ (q, submitted_of v q + 1) ∷ [] →
-    Fits m (Submit b) → IsWhole w h v m → IsWhole w h (after_submit v b) (after_vk_step m (Submit b))
-whole_submit w h v m q b o device machine within next queue number cs sets fits is = record {
-  run = is.run;
-  words = λ calm.
-      let ahead : IsAhead w h v m = is.words calm in
-      let long : length ahead.words ≡ length (plan_buffers w.resources) = as_many w ahead.words (known_sizes w v m ahead.words machine ahead.known) in
-      record {
-        words = ahead.words;
-        known = ahead.known;
-        are = at_first (λ p. slice_get (operations w h p) (submitted_of v p) ≡ Some o → b.queue ≡ p → b.number ≡ submitted_of v p + 1 → AreAhead w h (after_submit v b) ahead.words) q (length w.queues) within
-            (omega (arith, within, calm.world.queues.few_queues))
-            (λ next queue number. ahead_submit w h v ahead.words b o long (omega (arith, device.objects.lanes, within)) next queue number cs ahead.are) next queue number;
-      };
-  in_order = λ calm.
-      let zeroth : q ≡ 0 = omega (arith, within, calm.world.queues.few_queues) in
-      let single : is_single o ≡ true = all_at is_single (operations w h q) (submitted_of v q) o (calm.single q) next in
-      let lanes : 0 < length v.lanes = omega (arith, device.objects.lanes, within) in
-      order_submit v b lanes (queue ∙ zeroth) (ap is_short cs ∙ lowered_is_short w o single) (is.in_order calm);
-  settled = λ calm.
-      let single : is_single o ≡ true = all_at is_single (operations w h q) (submitted_of v q) o (calm.single q) next in
-      stays_settled m 0 (Submit b) machine.begins (is.settled calm) refl fits (λ _. simple_batch w b o (q, submitted_of v q + 1) cs sets single);
-}
+pub whole_submit : (w : World) (h : List Event) (m : Machine) (q : ℕ) (b : Batch) (o : Operation) → IsDevice w h (shown m) → IsMachine w m → q < length w.queues →
+    slice_get (operations w h q) (submitted_of (shown m) q) ≡ Some o → b.queue ≡ q → b.number ≡ submitted_of (shown m) q + 1 → b.commands ≡ lowered_commands w o → b.sets ≡ (q, submitted_of (shown m) q + 1) ∷ [] →
+    Fits m (Submit b) → shown (after_vk_step m (Submit b)) ≡ after_submit (shown m) b → IsWhole w h m → IsWhole w h (after_vk_step m (Submit b))
+whole_submit w h m q b o device machine within next queue number cs sets fits same is =
+    let v : VkState = shown m in
+    record {
+      run = is.run;
+      words = λ calm.
+          let ahead : IsAhead w h m = is.words calm in
+          let long : length ahead.words ≡ length (plan_buffers w.resources) = as_many w ahead.words (known_sizes w m ahead.words machine ahead.known) in
+          record {
+            words = ahead.words;
+            known = ahead.known;
+            are = subst (λ x. AreAhead w h x ahead.words) (sym same) (at_first (λ p. slice_get (operations w h p) (submitted_of v p) ≡ Some o → b.queue ≡ p → b.number ≡ submitted_of v p + 1 → AreAhead w h (after_submit v b) ahead.words) q (length w.queues) within
+                (omega (arith, within, calm.world.queues.few_queues))
+                (λ next queue number. ahead_submit w h v ahead.words b o long (omega (arith, device.objects.lanes, within)) next queue number cs ahead.are) next queue number);
+          };
+      in_order = λ calm.
+          let zeroth : q ≡ 0 = omega (arith, within, calm.world.queues.few_queues) in
+          let single : is_single o ≡ true = all_at is_single (operations w h q) (submitted_of v q) o (calm.single q) next in
+          let lanes : 0 < length v.lanes = omega (arith, device.objects.lanes, within) in
+          ap (λ (x : VkState). are_in_order (lane_of x 0).batches) same ∙ order_submit v b lanes (queue ∙ zeroth) (ap is_short cs ∙ lowered_is_short w o single) (is.in_order calm);
+      settled = λ calm.
+          let single : is_single o ≡ true = all_at is_single (operations w h q) (submitted_of v q) o (calm.single q) next in
+          stays_settled m 0 (Submit b) machine.begins (is.settled calm) refl fits (λ _. simple_batch w b o (q, submitted_of v q + 1) cs sets single);
+    }
 
 same_history : (w : World) (h : List Event) → (IsCalm w (h ++ []) → IsCalm w h) × (IsRun w h → IsRun w (h ++ []))
 same_history w h = (λ calm. subst (IsCalm w) (append-nil h) calm, λ run. subst (IsRun w) (sym (append-nil h)) run)
@@ -270,22 +278,24 @@ on_first v (Bumped q n) one enabled = tt
 on_first v Free one enabled = tt
 
 -- a step of the device
-pub whole_step : (w : World) (h : List Event) (v : VkState) (m : Machine) (j : ℕ) (s : Stepped) → IsRunButWords w h → IsDevice w h v → IsMachine w v m →
-    slice_get (enabled_steps v) j ≡ Some s → IsRunButWords w (h ++ step_events s) → IsWhole w h v m → IsWhole w (h ++ step_events s) (after_step v s) (after_stepped m s [])
-whole_step w h v m j s run device machine at now is =
+pub whole_step : (w : World) (h : List Event) (m : Machine) (j : ℕ) (s : Stepped) → IsRunButWords w h → IsDevice w h (shown m) → IsMachine w m →
+    slice_get (enabled_steps (shown m)) j ≡ Some s → IsRunButWords w (h ++ step_events s) → IsWhole w h m → IsWhole w (h ++ step_events s) (after_stepped m s [])
+whole_step w h m j s run device machine at now is =
+    let v : VkState = shown m in
     let goes : (IsCalm w (h ++ step_events s) → IsCalm w h) × (IsRun w h → IsRun w (h ++ step_events s)) = step_goes_on w h s now in
     let enabled : IsEnabled v s = enabled_means v j s at in
     let lanes : 0 < length v.lanes = some_queue v s enabled in
     let some : 0 < length w.queues = omega (arith, device.objects.lanes, lanes) in
-    let ahead : IsCalm w (h ++ step_events s) → IsAhead w h v m = λ calm. is.words (goes.0 calm) in
+    let ahead : IsCalm w (h ++ step_events s) → IsAhead w h m = λ calm. is.words (goes.0 calm) in
+    let same : shown (after_stepped m s []) ≡ after_step v s = shown_step w m s machine enabled in
     let stays : (calm : IsCalm w (h ++ step_events s)) → StaysAhead w h v (ahead calm).words s =
     λ calm. ahead_step w h v (ahead calm).words j s calm.world.queues run device at (ahead calm).are (is.in_order (goes.0 calm)) in
-    let kept : (calm : IsCalm w (h ++ step_events s)) → StaysKnown v m 0 s (ahead calm).words =
-    λ calm. known_step w h v m 0 s (ahead calm).words device machine enabled some
+    let kept : (calm : IsCalm w (h ++ step_events s)) → StaysKnown m 0 s (ahead calm).words =
+    λ calm. known_step w h m 0 s (ahead calm).words device machine enabled some
     (on_first v s (omega (arith, device.objects.lanes, some, calm.world.queues.few_queues)) enabled) (is.settled (goes.0 calm)) (ahead calm).known in
     record {
       run = λ calm. goes.1 (is.run (goes.0 calm));
-      words = λ calm. record { words = words_after v s (ahead calm).words; known = (kept calm).known; are = (stays calm).are };
-      in_order = λ calm. (stays calm).in_order;
+      words = λ calm. record { words = words_after v s (ahead calm).words; known = (kept calm).known; are = subst (λ x. AreAhead w (h ++ step_events s) x (words_after v s (ahead calm).words)) (sym same) (stays calm).are };
+      in_order = λ calm. ap (λ (x : VkState). are_in_order (lane_of x 0).batches) same ∙ (stays calm).in_order;
       settled = λ calm. (kept calm).settled;
     }

@@ -23,6 +23,7 @@ use Rattle.vk_types.specs.declared.commands.VkCommand.{VkCommand}
 use Rattle.vk_port.specs.declared.lanes.Running.{Running}
 use Rattle.vk_port.specs.After.{after_command}
 use Rattle.vk_port.specs.Enabled.{undone}
+use Rattle.vk_port.specs.Machine.{shown}
 use Rattle.vk_sync_rules.specs.VkState.{VkState as Machine}
 use Rattle.vk_port.specs.Reads.{AreKnown}
 use Rattle.vk_port.specs.Settled.{IsSettled}
@@ -59,10 +60,10 @@ pub record AreAhead (w : World) (h : List Event) (v : VkState) (words : List (Li
       ≡ memory_ahead (drop (counter h 0) (operations w h 0)) (state_after w h).memory
 
 -- the number in each word of the device's buffers is known, and these words are so
-pub record IsAhead (w : World) (h : List Event) (v : VkState) (m : Machine) : Type 0 where
+pub record IsAhead (w : World) (h : List Event) (m : Machine) : Type 0 where
   pub words : List (List ℕ)
   pub known : AreKnown m words
-  pub are : AreAhead w h v words
+  pub are : AreAhead w h (shown m) words
 
 -- no called operation is incomplete
 pub record IsQuiet (s : State) : Type 0 where
@@ -135,8 +136,8 @@ pub record IsCalm (w : World) (h : List Event) : Type 0 where
 
 -- a calm history is a run with its words: those of the device are known, its batches are done in order, and its queue is
 -- settled
-pub record IsWhole (w : World) (h : List Event) (v : VkState) (m : Machine) : Type 0 where
+pub record IsWhole (w : World) (h : List Event) (m : Machine) : Type 0 where
   pub run : IsCalm w h → IsRun w h
-  pub words : IsCalm w h → IsAhead w h v m
-  pub in_order : IsCalm w h → are_in_order (lane_of v 0).batches ≡ true
+  pub words : IsCalm w h → IsAhead w h m
+  pub in_order : IsCalm w h → are_in_order (lane_of (shown m) 0).batches ≡ true
   pub settled : IsCalm w h → IsSettled m 0

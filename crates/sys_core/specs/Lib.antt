@@ -8,6 +8,7 @@ pub mod Parts
 pub mod Batches
 pub mod Consistent
 pub mod FaultOf
+pub mod Answered
 pub mod Serving
 pub mod Work
 pub mod WaitSearches

@@ -8,21 +8,19 @@ use Rattle.vk_sync_rules.specs.declared.ranges.VkResource.TheVariants.{Buffer}
 use Rattle.vk_sync_rules.specs.FirstState.{Begins}
 use Rattle.vk_sync_rules.specs.Numbers.{numbers_in}
 use Rattle.vk_sync_rules.specs.VkState.{VkState as Machine}
-use Rattle.vk_port.specs.Machine.{Shows, IsCounted}
-use Rattle.vk_port.specs.VkState.{VkState}
+use Rattle.vk_port.specs.Machine.{IsCounted}
 use Rattle.sys_core.specs.Lowering.{plan_buffers, plan_number, plan_of_world}
 
 -- the words that a buffer of a plan has
 abbrev pub words_count : PlanBuffer → ℕ
 words_count buffer = buffer.words
 
--- the machine has the plan of the world, and a number for each word of its buffers; it is what a run of it can be, and the
--- device has its timelines, its journal and each queue's unfinished batches
-pub record IsMachine (w : World) (v : VkState) (m : Machine) : Type 0 where
+-- the machine has the plan of the world, and a number for each word of its buffers; it is what a run of it can be, and its
+-- batches are counted
+pub record IsMachine (w : World) (m : Machine) : Type 0 where
   pub plan : m.plan ≡ plan_of_world w
   pub sizes : map length m.numbers.buffers ≡ map words_count (plan_buffers w.resources)
   pub begins : Begins m
-  pub shows : Shows m v
   pub counted : IsCounted m
 
 -- the machine has each live buffer at its number, with a number for each of its words, and no other

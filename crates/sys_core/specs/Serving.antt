@@ -1,11 +1,8 @@
 -- What serving a call does to the parts.
-use Rattle.std.specs.Prelude.{ℕ, ⊤, ◌≡◌, map, Result, Ok, Err}
-use Rattle.dx_base.specs.Faults.{HasRisen}
+use Rattle.std.specs.Prelude.{◌≡◌, map}
 use Rattle.d3d_machine.specs.declared.world.World.{World}
 use Rattle.d3d_machine.specs.declared.calls.Call.{Call}
 use Rattle.sys_core.specs.declared.parts.Parts.{Parts}
-use Rattle.sys_core.specs.declared.faults.SysFault.{SysFault}
-use Rattle.sys_core.specs.declared.faults.SysFault.TheVariants.{Memory, Lost}
 use Rattle.sys_core.specs.Parts.{queued, updates_in, lists_by, held_by, fences_by}
 
 -- the parts after a call that was served: lists, fences and held operations change as it says, and the rest stays
@@ -23,12 +20,3 @@ pub record StaysParts (old new : Parts) : Type 0 where
   pub fences : map updates_in new.fences ≡ map updates_in old.fences
   pub held : map queued new.held ≡ map queued old.held
   pub numbers : new.numbers ≡ old.numbers
-
-abbrev pub HasFaultCause : SysFault → ℕ → ℕ → Type 0
-HasFaultCause Lost before now = HasRisen before now
-HasFaultCause Memory before now = ⊤
-
--- an answer is Lost only where the device's count of faults rose
-abbrev pub HasCause : {T : Type 0} → ℕ → ℕ → Result T SysFault → Type 0
-HasCause before now (Ok answer) = ⊤
-HasCause before now (Err fault) = HasFaultCause fault before now

@@ -16,13 +16,12 @@ use Rattle.vk_port.specs.declared.steps.Stepped.{Stepped}
 use Rattle.vk_port.specs.declared.steps.Stepped.TheVariants as stepped
 use Rattle.vk_types.specs.declared.batches.Batch.{Batch}
 use Rattle.vk_types.specs.declared.steps.VkStep.TheVariants.{Submit}
-use Rattle.vk_sync_rules.specs.Rules.{after_step as after_vk_step}
+use Rattle.vk_sync_rules.specs.Rules.{after_step}
 use Rattle.vk_sync_rules.specs.VkState.{VkState as Machine}
 use Rattle.vk_port.specs.Journal.{next_number}
-use Rattle.vk_port.specs.Machine.{after_stepped}
+use Rattle.vk_port.specs.Machine.{shown, after_stepped}
 use Rattle.vk_port.specs.Offers.{steps_offered}
 use Rattle.vk_port.specs.VkState.{VkState}
-use Rattle.vk_port.specs.After.{after_submit, after_step}
 use Rattle.vk_port.specs.Enabled.{enabled_steps}
 use Rattle.sys_core.specs.Lowering.{lowered}
 
@@ -87,21 +86,15 @@ next_batch w h v q (Some o) = lowered w h v.journal q (submitted_of v q + 1) o �
 abbrev pub submitted_batches : World → List Event → VkState → ℕ → List Batch
 submitted_batches w h v q = next_batch w h v q (slice_get (operations w h q) (submitted_of v q))
 
--- the device after batches were submitted
-abbrev pub after_submits : VkState → List Batch → VkState
-after_submits v [] = v
-after_submits v (b ∷ bs) = after_submits (after_submit v b) bs
-
--- and its machine
-abbrev pub after_vk_submits : Machine → List Batch → Machine
-after_vk_submits m [] = m
-after_vk_submits m (b ∷ bs) = after_vk_submits (after_vk_step m (Submit b)) bs
+-- the machine after batches were submitted
+abbrev pub after_submits : Machine → List Batch → Machine
+after_submits m [] = m
+after_submits m (b ∷ bs) = after_submits (after_step m (Submit b)) bs
 
 -- a step of the device: of the Vulkan machine where its place is one of that machine's steps, else a free one
-pub record IsDeviceStep (h after : List Event) (v u : VkState) (m n : Machine) (k : ℕ) : Type 0 where
+pub record IsDeviceStep (h after : List Event) (m n : Machine) (k : ℕ) : Type 0 where
   pub step : Stepped
-  pub named : k < length (enabled_steps v) → slice_get (enabled_steps v) k ≡ Some step
-  pub free : length (enabled_steps v) ≤ k → step ≡ stepped.Free
-  pub state : u ≡ after_step v step
+  pub named : k < length (enabled_steps (shown m)) → slice_get (enabled_steps (shown m)) k ≡ Some step
+  pub free : length (enabled_steps (shown m)) ≤ k → step ≡ stepped.Free
   pub machine : n ≡ after_stepped m step []
   pub history : after ≡ h ++ step_events step

@@ -9,7 +9,6 @@ use Rattle.d3d_machine.specs.State.{Desk}
 use Rattle.d3d_machine.specs.Effects.{done}
 use Rattle.d3d_machine.specs.Play.{May, SameButWords, state_after}
 use Rattle.vk_sync_rules.specs.VkState.{VkState as Machine}
-use Rattle.vk_port.specs.VkState.{VkState}
 use Rattle.sys_core.specs.Host.{IsRead, after_call}
 
 -- an event of that thread
@@ -36,12 +35,11 @@ TellsWords w d m (event.Awake t) = Unit {0}
 TellsWords w d m (event.Queue q) = Unit {0}
 
 -- a step of a thread: an event of it may come but for its words, and these agree with the numbers that the host reads; the
--- machine is that after what the host stores and reads, and what each queue has yet to do stays
-pub record IsThreadStep (w : World) (h after : List Event) (v u : VkState) (m n : Machine) (t : ℕ) : Type 0 where
+-- machine is that after what the host stores and reads, so that what each queue has yet to do stays
+pub record IsThreadStep (w : World) (h after : List Event) (m n : Machine) (t : ℕ) : Type 0 where
   pub event : Event
   pub of_thread : IsOf t event
   pub enabled : May SameButWords w (state_after w h) event
   pub words : TellsWords w (state_after w h).desk m event
   pub history : after ≡ h ++ event ∷ []
-  pub device : u ≡ v
   pub machine : n ≡ after_host w (state_after w h).desk m event

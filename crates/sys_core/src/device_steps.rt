@@ -1,11 +1,12 @@
 //! Steps of the device.
 
-ghost use Rattle.std.specs.Prelude.{◌≡◌, ◌<◌, ◌≤◌, ◌+◌, ◌^◌, ◌++◌, ◌∷◌, [], map, length, true, slice_get, slice_index_or, Some, None, IfOk, OnOk, OnErr, IsSome, IfSome};
+ghost use Rattle.std.specs.Prelude.{◌≡◌, ◌<◌, ◌+◌, ◌^◌, ◌++◌, ◌∷◌, [], map, length, true, slice_get, slice_index_or, Some, None, IfOk, OnOk, OnErr, IsSome, IfSome};
 ghost use Rattle.dx_base.specs.Lists.{changed_at};
 ghost use Rattle.sys_core.specs.Parts.{queued, updates_in, signal_at, without, updated_by, first_signal, HasRoomFor, HasRoomForEach, KeepsRoom};
 ghost use Rattle.sys_core.specs.Steps.{step_events, IsDeviceStep};
-ghost use Rattle.sys_core.specs.Serving.{HasCause};
+ghost use Rattle.sys_core.specs.Answered.{HasAnswered};
 ghost use Rattle.sys_core.specs.Keeps.{Keeps};
+ghost use Rattle.vk_port.specs.Machine.{shown};
 ghost use Rattle.vk_port.specs.Offers.{steps_offered};
 ghost use Rattle.dx_base.specs.declared.steps.Step.TheVariants as step;
 ghost use Rattle.sys_core.specs.StepCount.{rest_used};
@@ -78,17 +79,13 @@ pub(crate) fn device_step<D: VkDevice>(
     device: &mut D,
     k: usize,
 ) -> Result<(), SysFault>
-    requires keeps { Keeps D.state D.machine D.plan_of world.now history.old.items parts.old device.old }
-    requires offered { k < steps_offered (D.state device.old) (D.offered device.old) }
-    ensures keeps { Keeps D.state D.machine D.plan_of world.now history.new.items parts.new device.new }
-    ensures step { OnOk result (IsDeviceStep history.old.items history.new.items (D.state device.old) (D.state device.new) (D.machine device.old) (D.machine device.new) k) }
-    ensures rest { OnOk result (D.rest_of device.old ≡ D.rest_of device.new + rest_used (D.state device.old) (step.Device k)) }
+    requires keeps { Keeps world.now history.old.items parts.old (D.view_of device.old) }
+    requires offered { k < steps_offered (shown (D.view_of device.old).state) (D.view_of device.old).offered }
+    ensures keeps { Keeps world.now history.new.items parts.new (D.view_of device.new) }
+    ensures step { OnOk result (IsDeviceStep history.old.items history.new.items (D.view_of device.old).state (D.view_of device.new).state k) }
+    ensures rest { OnOk result ((D.view_of device.old).rest ≡ (D.view_of device.new).rest + rest_used (shown (D.view_of device.old).state) (step.Device k)) }
     ensures same { OnErr result (history.new.items ≡ history.old.items) }
-    ensures same_state { OnErr result (D.state device.new ≡ D.state device.old) }
-    ensures same_machine { OnErr result (D.machine device.new ≡ D.machine device.old) }
-    ensures same_rest { OnErr result (D.rest_of device.new ≡ D.rest_of device.old) }
-    ensures faults { D.faults device.old ≤ D.faults device.new }
-    ensures cause { HasCause (D.faults device.old) (D.faults device.new) result }
+    ensures answered { HasAnswered (D.view_of device.old) (D.view_of device.new) result }
 {
     let _queues = world.queues.len();
     history.reserve()?;

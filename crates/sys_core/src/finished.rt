@@ -4,6 +4,7 @@ ghost use Rattle.std.specs.Prelude.{ℕ, ◌≡◌, ◌<◌, ◌≤◌, ◌==◌
 ghost use Rattle.d3d_machine.specs.Play.{IsFinished, state_after};
 ghost use Rattle.sys_core.specs.Finished.{has_ended_at, is_empty_at, all_from};
 ghost use Rattle.sys_core.specs.Keeps.{Keeps};
+ghost use Rattle.vk_port.specs.Machine.{shown};
 
 use crate::parts::Parts;
 use d3d_machine::{Event, World};
@@ -25,11 +26,11 @@ fn has_ended(world: &World, parts: &Parts, thread: usize) -> bool
 
 /// All operations that were called on a queue are complete.
 fn is_empty<D: VkDevice>(parts: &Parts, device: &D, queue: usize) -> bool
-    requires plan { IsSome (D.plan_of device.now) }
+    requires plan { IsSome (D.view_of device.now).plan }
     requires held { queue < length parts.now.held }
     requires few { length parts.now.held ≤ 16 }
-    requires timeline { queue < length (D.state device.now).timelines }
-    ensures { result ≡ is_empty_at parts.now.held (D.state device.now) queue }
+    requires timeline { queue < length (D.view_of device.now).state.timelines }
+    ensures { result ≡ is_empty_at parts.now.held (shown (D.view_of device.now).state) queue }
 {
     let held = parts.held.at(queue);
     held.operations.is_empty() && device.counter(queue as u32) == held.submitted
@@ -50,10 +51,10 @@ fn have_ended(world: &World, parts: &Parts) -> bool
 
 /// Every queue is empty.
 fn are_empty<D: VkDevice>(parts: &Parts, device: &D) -> bool
-    requires plan { IsSome (D.plan_of device.now) }
+    requires plan { IsSome (D.view_of device.now).plan }
     requires few { length parts.now.held ≤ 16 }
-    requires timelines { length parts.now.held ≤ length (D.state device.now).timelines }
-    ensures { result ≡ all_from (is_empty_at parts.now.held (D.state device.now)) 0 (length parts.now.held) }
+    requires timelines { length parts.now.held ≤ length (D.view_of device.now).state.timelines }
+    ensures { result ≡ all_from (is_empty_at parts.now.held (shown (D.view_of device.now).state)) 0 (length parts.now.held) }
 {
     for queue in 0..parts.held.len() {
         if !is_empty(parts, device, queue) {
@@ -70,7 +71,7 @@ pub(crate) fn is_finished<D: VkDevice>(
     parts: &Parts,
     device: &D,
 ) -> bool
-    requires keeps { Keeps D.state D.machine D.plan_of world.now history.now.items parts.now device.now }
+    requires keeps { Keeps world.now history.now.items parts.now (D.view_of device.now) }
     ensures yes { result ≡ true → IsFinished world.now (state_after world.now history.now.items).desk }
     ensures no { result ≡ false → IsFinished world.now (state_after world.now history.now.items).desk → ⊥ }
 {

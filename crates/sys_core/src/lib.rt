@@ -12,8 +12,6 @@ mod over;
 mod parts;
 mod serve;
 mod sys;
-#[cfg(test)]
-mod tests;
 mod threads;
 mod waits;
 mod worker;

@@ -8,6 +8,7 @@ ghost use Rattle.verdicts.specs.declared.rules.Verdict.TheVariants.{Clean};
 ghost use Rattle.sys_core.specs.Steps.{steps_where, enabled_of, numbered};
 ghost use Rattle.sys_core.specs.Keeps.{Keeps};
 ghost use Rattle.sys_core.specs.WaitSearches.{AreSearched};
+ghost use Rattle.vk_port.specs.Machine.{shown};
 ghost use Rattle.vk_port.specs.Offers.{steps_offered};
 
 use crate::parts::Parts;
@@ -52,9 +53,9 @@ fn holding_queues(world: &World, parts: &Parts) -> usize
 
 /// How many steps of the device can be taken that have a number.
 fn device_steps<D: VkDevice>(device: &D) -> usize
-    requires plan { IsSome (D.plan_of device.now) }
-    ensures count { result ≡ numbered (steps_offered (D.state device.now) (D.offered device.now)) }
-    ensures none_at_rest { D.rest_of device.now ≡ 0 → D.offered device.now ≡ 0 }
+    requires plan { IsSome (D.view_of device.now).plan }
+    ensures count { result ≡ numbered (steps_offered (shown (D.view_of device.now).state) (D.view_of device.now).offered) }
+    ensures none_at_rest { (D.view_of device.now).rest ≡ 0 → (D.view_of device.now).offered ≡ 0 }
 {
     device.enabled().min(NUMBERED)
 }
@@ -66,9 +67,9 @@ pub(crate) fn count_steps<D: VkDevice>(
     parts: &Parts,
     device: &D,
 ) -> usize
-    requires keeps { Keeps D.state D.machine D.plan_of world.now history.now.items parts.now device.now }
-    ensures count { result ≡ length (enabled_of world.now history.now.items Clean (D.state device.now) (D.offered device.now)) }
-    ensures none_at_rest { D.rest_of device.now ≡ 0 → D.offered device.now ≡ 0 }
+    requires keeps { Keeps world.now history.now.items parts.now (D.view_of device.now) }
+    ensures count { result ≡ length (enabled_of world.now history.now.items Clean (shown (D.view_of device.now).state) (D.view_of device.now).offered) }
+    ensures none_at_rest { (D.view_of device.now).rest ≡ 0 → (D.view_of device.now).offered ≡ 0 }
 {
     let _events = history.len();
     ready_threads(world, parts) + (holding_queues(world, parts) + device_steps(device))
@@ -121,9 +122,9 @@ pub(crate) fn nth_step<D: VkDevice>(
     device: &D,
     k: usize,
 ) -> Step
-    requires keeps { Keeps D.state D.machine D.plan_of world.now history.now.items parts.now device.now }
-    requires within { k < length (enabled_of world.now history.now.items Clean (D.state device.now) (D.offered device.now)) }
-    ensures { slice_get (enabled_of world.now history.now.items Clean (D.state device.now) (D.offered device.now)) k ≡ Some result }
+    requires keeps { Keeps world.now history.now.items parts.now (D.view_of device.now) }
+    requires within { k < length (enabled_of world.now history.now.items Clean (shown (D.view_of device.now).state) (D.view_of device.now).offered) }
+    ensures { slice_get (enabled_of world.now history.now.items Clean (shown (D.view_of device.now).state) (D.view_of device.now).offered) k ≡ Some result }
 {
     let _events = history.len();
     let _device = device;

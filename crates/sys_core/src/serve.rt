@@ -18,7 +18,8 @@ ghost use Rattle.sys_core.specs.Lowering.{AreNumbers, plan_number};
 ghost use Rattle.sys_core.specs.Machine.{HasBuffers};
 ghost use Rattle.sys_core.specs.Host.{Answers, IsRead, IsReply, after_call, after_load, after_store, told_words};
 ghost use Rattle.sys_core.specs.Parts.{queued, updates_in};
-ghost use Rattle.sys_core.specs.Serving.{Serves, StaysParts, HasCause};
+ghost use Rattle.sys_core.specs.Answered.{HasAnswered};
+ghost use Rattle.sys_core.specs.Serving.{Serves, StaysParts};
 
 use crate::faults::SysFault;
 use crate::fences::{push_update, reserve_update_of, value_of};
@@ -39,17 +40,13 @@ fn write_words<D: VkDevice>(
     offset: u64,
     words: &Seq<u32>,
 ) -> Result<(), SysFault>
-    requires plan { IsSome (D.plan_of device.old) }
+    requires plan { IsSome (D.view_of device.old).plan }
     requires numbers { AreNumbers world.now.resources numbers.now }
-    requires buffers { HasBuffers world.now (D.machine device.old) }
+    requires buffers { HasBuffers world.now (D.view_of device.old).state }
     requires good { refusal_of_write world.now buffer.0 offset (length words.now) ≡ None }
-    ensures machine { OnOk result (D.machine device.new ≡ after_step (D.machine device.old) (HostWrite (plan_number world.now buffer.0) (offset / 4) words.now)) }
-    ensures same { OnErr result (D.machine device.new ≡ D.machine device.old) }
-    ensures state { D.state device.new ≡ D.state device.old }
-    ensures plan { D.plan_of device.new ≡ D.plan_of device.old }
-    ensures rest { D.rest_of device.new ≡ D.rest_of device.old }
-    ensures faults { D.faults device.old ≤ D.faults device.new }
-    ensures cause { HasCause (D.faults device.old) (D.faults device.new) result }
+    ensures state { OnOk result ((D.view_of device.new).state ≡ after_step (D.view_of device.old).state (HostWrite (plan_number world.now buffer.0) (offset / 4) words.now)) }
+    ensures rest { (D.view_of device.new).rest ≡ (D.view_of device.old).rest }
+    ensures answered { HasAnswered (D.view_of device.old) (D.view_of device.new) result }
 {
     let number = number_of(world, numbers, buffer);
     device.host_write(number, (offset / 4) as u32, words.as_slice())?;
@@ -66,18 +63,14 @@ fn read_words<D: VkDevice>(
     offset: u64,
     bytes: u64,
 ) -> Result<Reply, SysFault>
-    requires plan { IsSome (D.plan_of device.old) }
+    requires plan { IsSome (D.view_of device.old).plan }
     requires numbers { AreNumbers world.now.resources numbers.now }
-    requires buffers { HasBuffers world.now (D.machine device.old) }
+    requires buffers { HasBuffers world.now (D.view_of device.old).state }
     requires good { refusal_of_read world.now buffer.0 offset bytes ≡ None }
-    ensures words { IfOk result (λ reply. IsRead world.now (D.machine device.old) (record { place = buffer.0; what = (offset / 4, bytes / 4) }) reply) }
-    ensures machine { IfOk result (λ reply. D.machine device.new ≡ after_step (D.machine device.old) (HostRead (plan_number world.now buffer.0) (offset / 4) (told_words reply))) }
-    ensures same { OnErr result (D.machine device.new ≡ D.machine device.old) }
-    ensures state { D.state device.new ≡ D.state device.old }
-    ensures plan { D.plan_of device.new ≡ D.plan_of device.old }
-    ensures rest { D.rest_of device.new ≡ D.rest_of device.old }
-    ensures faults { D.faults device.old ≤ D.faults device.new }
-    ensures cause { HasCause (D.faults device.old) (D.faults device.new) result }
+    ensures words { IfOk result (λ reply. IsRead world.now (D.view_of device.old).state (record { place = buffer.0; what = (offset / 4, bytes / 4) }) reply) }
+    ensures state { IfOk result (λ reply. (D.view_of device.new).state ≡ after_step (D.view_of device.old).state (HostRead (plan_number world.now buffer.0) (offset / 4) (told_words reply))) }
+    ensures rest { (D.view_of device.new).rest ≡ (D.view_of device.old).rest }
+    ensures answered { HasAnswered (D.view_of device.old) (D.view_of device.new) result }
 {
     let number = number_of(world, numbers, buffer);
     let words = device.host_read(number, (offset / 4) as u32, (bytes / 4) as u32)?;
@@ -94,17 +87,13 @@ fn serve_write<D: VkDevice>(
     offset: u64,
     words: &Seq<u32>,
 ) -> Result<Reply, SysFault>
-    requires plan { IsSome (D.plan_of device.old) }
+    requires plan { IsSome (D.view_of device.old).plan }
     requires numbers { AreNumbers world.now.resources numbers.now }
-    requires buffers { HasBuffers world.now (D.machine device.old) }
+    requires buffers { HasBuffers world.now (D.view_of device.old).state }
     ensures reply { IfOk result (λ reply. reply ≡ reply_or (refusal_of_write world.now buffer.0 offset (length words.now)) done) }
-    ensures machine { OnOk result (D.machine device.new ≡ after_store world.now (D.machine device.old) (unless (at buffer.0 (offset / 4, words.now)) (refusal_of_write world.now buffer.0 offset (length words.now)))) }
-    ensures same { OnErr result (D.machine device.new ≡ D.machine device.old) }
-    ensures state { D.state device.new ≡ D.state device.old }
-    ensures plan { D.plan_of device.new ≡ D.plan_of device.old }
-    ensures rest { D.rest_of device.new ≡ D.rest_of device.old }
-    ensures faults { D.faults device.old ≤ D.faults device.new }
-    ensures cause { HasCause (D.faults device.old) (D.faults device.new) result }
+    ensures state { OnOk result ((D.view_of device.new).state ≡ after_store world.now (D.view_of device.old).state (unless (at buffer.0 (offset / 4, words.now)) (refusal_of_write world.now buffer.0 offset (length words.now)))) }
+    ensures rest { (D.view_of device.new).rest ≡ (D.view_of device.old).rest }
+    ensures answered { HasAnswered (D.view_of device.old) (D.view_of device.new) result }
 {
     let _lists = lists;
     match write_refusal(world, buffer, offset, words.len()) {
@@ -125,17 +114,13 @@ fn serve_read<D: VkDevice>(
     offset: u64,
     bytes: u64,
 ) -> Result<Reply, SysFault>
-    requires plan { IsSome (D.plan_of device.old) }
+    requires plan { IsSome (D.view_of device.old).plan }
     requires numbers { AreNumbers world.now.resources numbers.now }
-    requires buffers { HasBuffers world.now (D.machine device.old) }
-    ensures reply { IfOk result (λ reply. Answers world.now (D.machine device.old) (unless (at buffer.0 (offset / 4, bytes / 4)) (refusal_of_read world.now buffer.0 offset bytes)) (reply_or (refusal_of_read world.now buffer.0 offset bytes) (words_reply (range_of (offset / 4) (bytes / 4) (words_at [] buffer.0)))) reply) }
-    ensures machine { IfOk result (λ reply. D.machine device.new ≡ after_load world.now (D.machine device.old) (unless (at buffer.0 (offset / 4, bytes / 4)) (refusal_of_read world.now buffer.0 offset bytes)) reply) }
-    ensures same { OnErr result (D.machine device.new ≡ D.machine device.old) }
-    ensures state { D.state device.new ≡ D.state device.old }
-    ensures plan { D.plan_of device.new ≡ D.plan_of device.old }
-    ensures rest { D.rest_of device.new ≡ D.rest_of device.old }
-    ensures faults { D.faults device.old ≤ D.faults device.new }
-    ensures cause { HasCause (D.faults device.old) (D.faults device.new) result }
+    requires buffers { HasBuffers world.now (D.view_of device.old).state }
+    ensures reply { IfOk result (λ reply. Answers world.now (D.view_of device.old).state (unless (at buffer.0 (offset / 4, bytes / 4)) (refusal_of_read world.now buffer.0 offset bytes)) (reply_or (refusal_of_read world.now buffer.0 offset bytes) (words_reply (range_of (offset / 4) (bytes / 4) (words_at [] buffer.0)))) reply) }
+    ensures state { IfOk result (λ reply. (D.view_of device.new).state ≡ after_load world.now (D.view_of device.old).state (unless (at buffer.0 (offset / 4, bytes / 4)) (refusal_of_read world.now buffer.0 offset bytes)) reply) }
+    ensures rest { (D.view_of device.new).rest ≡ (D.view_of device.old).rest }
+    ensures answered { HasAnswered (D.view_of device.old) (D.view_of device.new) result }
 {
     match read_refusal(world, buffer, offset, bytes) {
         Some(error) => Ok(Reply::Error(error)),
@@ -257,22 +242,18 @@ pub(crate) fn serve<D: VkDevice>(
     device: &mut D,
     call: &Call,
 ) -> Result<Reply, SysFault>
-    requires plan { IsSome (D.plan_of device.old) }
+    requires plan { IsSome (D.view_of device.old).plan }
     requires numbers { AreNumbers world.now.resources parts.old.numbers }
-    requires buffers { HasBuffers world.now (D.machine device.old) }
+    requires buffers { HasBuffers world.now (D.view_of device.old).state }
     requires queues { length parts.old.held ≡ length world.now.queues }
     requires lists { length parts.old.lists ≡ length world.now.lists }
     requires named { is_named world.now call.now ≡ true }
-    ensures reply { IfOk result (λ reply. IsReply world.now parts.old.lists (map updates_in parts.old.fences) (D.machine device.old) call.now reply) }
+    ensures reply { IfOk result (λ reply. IsReply world.now parts.old.lists (map updates_in parts.old.fences) (D.view_of device.old).state call.now reply) }
     ensures parts { OnOk result (Serves world.now call.now parts.old parts.new) }
-    ensures machine { IfOk result (λ reply. D.machine device.new ≡ after_call world.now parts.old.lists (D.machine device.old) call.now reply) }
-    ensures state { D.state device.new ≡ D.state device.old }
-    ensures same_parts { OnErr result (StaysParts parts.old parts.new) }
-    ensures same_machine { OnErr result (D.machine device.new ≡ D.machine device.old) }
-    ensures plan { D.plan_of device.new ≡ D.plan_of device.old }
-    ensures rest { D.rest_of device.new ≡ D.rest_of device.old }
-    ensures faults { D.faults device.old ≤ D.faults device.new }
-    ensures cause { HasCause (D.faults device.old) (D.faults device.new) result }
+    ensures state { IfOk result (λ reply. (D.view_of device.new).state ≡ after_call world.now parts.old.lists (D.view_of device.old).state call.now reply) }
+    ensures same { OnErr result (StaysParts parts.old parts.new) }
+    ensures rest { (D.view_of device.new).rest ≡ (D.view_of device.old).rest }
+    ensures answered { HasAnswered (D.view_of device.old) (D.view_of device.new) result }
 {
     match call {
         Call::Recording { list, what } => Ok(serve_recording(world, parts, *list, *what)?),

@@ -8,7 +8,7 @@ ghost use Rattle.sys_core.specs.declared.parts.Seat.{Seat};
 ghost use Rattle.sys_core.specs.Parts.{updates_in, seat_after, woken_seat};
 ghost use Rattle.sys_core.specs.Steps.{is_ready_thread};
 ghost use Rattle.sys_core.specs.ThreadSteps.{IsThreadStep};
-ghost use Rattle.sys_core.specs.Serving.{HasCause};
+ghost use Rattle.sys_core.specs.Answered.{HasAnswered};
 ghost use Rattle.sys_core.specs.Keeps.{Keeps, ready_by};
 ghost use Rattle.sys_core.specs.WaitSearches.{AreSearched};
 
@@ -69,16 +69,13 @@ pub(crate) fn thread_step<D: VkDevice>(
     device: &mut D,
     thread: ThreadId,
 ) -> Result<(), SysFault>
-    requires keeps { Keeps D.state D.machine D.plan_of world.now history.old.items parts.old device.old }
+    requires keeps { Keeps world.now history.old.items parts.old (D.view_of device.old) }
     requires ready { is_ready_thread world.now history.old.items thread.0 ≡ true }
-    ensures keeps { Keeps D.state D.machine D.plan_of world.now history.new.items parts.new device.new }
-    ensures step { OnOk result (IsThreadStep world.now history.old.items history.new.items (D.state device.old) (D.state device.new) (D.machine device.old) (D.machine device.new) thread.0) }
+    ensures keeps { Keeps world.now history.new.items parts.new (D.view_of device.new) }
+    ensures step { OnOk result (IsThreadStep world.now history.old.items history.new.items (D.view_of device.old).state (D.view_of device.new).state thread.0) }
     ensures same { OnErr result (history.new.items ≡ history.old.items) }
-    ensures same_state { OnErr result (D.state device.new ≡ D.state device.old) }
-    ensures same_machine { OnErr result (D.machine device.new ≡ D.machine device.old) }
-    ensures rest { D.rest_of device.new ≡ D.rest_of device.old }
-    ensures faults { D.faults device.old ≤ D.faults device.new }
-    ensures cause { HasCause (D.faults device.old) (D.faults device.new) result }
+    ensures rest { (D.view_of device.new).rest ≡ (D.view_of device.old).rest }
+    ensures answered { HasAnswered (D.view_of device.old) (D.view_of device.new) result }
 {
     history.reserve()?;
     let at = thread.0 as usize;

@@ -6,8 +6,9 @@ ghost use Rattle.d3d_machine.specs.World.{HasOneQueueAtMost};
 ghost use Rattle.sys_core.specs.Batches.{batch_by, is_numbered_operation};
 ghost use Rattle.sys_core.specs.Lowering.{AreNumbers};
 ghost use Rattle.sys_core.specs.Parts.{queued, submitted_one, signal_of};
-ghost use Rattle.sys_core.specs.Steps.{is_ready_worker, submitted_batches, after_submits, after_vk_submits};
-ghost use Rattle.sys_core.specs.Serving.{HasCause};
+ghost use Rattle.sys_core.specs.Steps.{is_ready_worker, submitted_batches, after_submits};
+ghost use Rattle.vk_port.specs.Machine.{shown};
+ghost use Rattle.sys_core.specs.Answered.{HasAnswered};
 ghost use Rattle.sys_core.specs.Keeps.{Keeps};
 
 use crate::faults::SysFault;
@@ -82,18 +83,14 @@ pub(crate) fn worker_step<D: VkDevice>(
     device: &mut D,
     queue: QueueId,
 ) -> Result<(), SysFault>
-    requires keeps { Keeps D.state D.machine D.plan_of world.now history.now.items parts.old device.old }
+    requires keeps { Keeps world.now history.now.items parts.old (D.view_of device.old) }
     requires queues { HasOneQueueAtMost world.now }
     requires queue { queue.0 < length world.now.queues }
-    requires ready { is_ready_worker world.now history.now.items (D.state device.old) queue.0 ≡ true }
-    ensures keeps { Keeps D.state D.machine D.plan_of world.now history.now.items parts.new device.new }
-    ensures state { OnOk result (D.state device.new ≡ after_submits (D.state device.old) (submitted_batches world.now history.now.items (D.state device.old) queue.0)) }
-    ensures machine { OnOk result (D.machine device.new ≡ after_vk_submits (D.machine device.old) (submitted_batches world.now history.now.items (D.state device.old) queue.0)) }
-    ensures same_state { OnErr result (D.state device.new ≡ D.state device.old) }
-    ensures same_machine { OnErr result (D.machine device.new ≡ D.machine device.old) }
-    ensures rest { D.rest_of device.new ≡ D.rest_of device.old }
-    ensures faults { D.faults device.old ≤ D.faults device.new }
-    ensures cause { HasCause (D.faults device.old) (D.faults device.new) result }
+    requires ready { is_ready_worker world.now history.now.items (shown (D.view_of device.old).state) queue.0 ≡ true }
+    ensures keeps { Keeps world.now history.now.items parts.new (D.view_of device.new) }
+    ensures state { OnOk result ((D.view_of device.new).state ≡ after_submits (D.view_of device.old).state (submitted_batches world.now history.now.items (shown (D.view_of device.old).state) queue.0)) }
+    ensures rest { (D.view_of device.new).rest ≡ (D.view_of device.old).rest }
+    ensures answered { HasAnswered (D.view_of device.old) (D.view_of device.new) result }
 {
     let _events = history.len();
     let held = parts.held.at_mut(queue.0 as usize);

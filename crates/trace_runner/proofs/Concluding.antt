@@ -21,7 +21,8 @@ use Rattle.sys_core.specs.Keeps.{IsSystem}
 use Rattle.sys_core.specs.Over.{IsOver}
 use Rattle.sys_core.specs.Steps.{enabled_of}
 use Rattle.verdicts.specs.declared.rules.Verdict.TheVariants.{Clean}
-use Rattle.sys_core.specs.Serving.{HasCause, HasFaultCause}
+use Rattle.sys_core.specs.Answered.{HasCause, HasFaultCause}
+use Rattle.vk_port.specs.Machine.{shown}
 use Rattle.sys_core.proofs.Progress.{machine_goes}
 use Rattle.trace_text.proofs.TakenBytes.{first_bytes}
 use Rattle.trace_runner.specs.declared.words.Words.{Words}
@@ -33,7 +34,7 @@ use Rattle.sys_core.specs.Laws.{CanGoOn}
 use Rattle.trace_runner.proofs.OfRounds.{rounds_are_calm, rounds_go_on}
 
 -- a run that took steps
-underway : (w : World) (l : Left) → l.verdict ≡ Clean → Went w l.rest.0 l.rest.1 l.choices l.taken l.history l.device l.machine → IsSystem w l.history l.device l.machine → IsWhole w l.history l.device l.machine → IsUnderway w l
+underway : (w : World) (l : Left) → l.verdict ≡ Clean → Went w l.before.rest l.choices l.taken l.history l.device → IsSystem w l.history l.device.state → IsWhole w l.history l.device.state → IsUnderway w l
 underway w l clean went system whole = record {
   clean = clean;
   went = went;
@@ -47,7 +48,7 @@ underway w l clean went system whole = record {
 through : (w : World) (l : Left) (values : List ℕ) → IsUnderway w l → length l.choices ≡ length l.taken → l.fences ≡ values → values ≡ (state_after w l.history).desk.fences → IsThrough w l
 through w l values under equal is are = record { underway = under; equal = equal; values = is ∙ are }
 
-ran_over : (w : World) (l : Left) (o : Over) (s : Status) → IsSystem w l.history l.device l.machine → IsThrough w l → IsOver w l.history l.verdict l.device l.offered o → (o ≡ over.Done) ⊎ (o ≡ over.Stalled) →
+ran_over : (w : World) (l : Left) (o : Over) (s : Status) → IsSystem w l.history l.device.state → IsThrough w l → IsOver w l.history l.verdict (shown l.device.state) l.device.offered o → (o ≡ over.Done) ⊎ (o ≡ over.Stalled) →
     s ≡ status_at o → Ran w l s
 ran_over w l over.Running s system is far last at = elim last [
   | inl e ↦ absurd (cc)
@@ -55,7 +56,7 @@ ran_over w l over.Running s system is far last at = elim last [
 ]
 ran_over w l over.Done s system is far last at = subst (Ran w l) (sym at) (record { through = is; finished = far.0 })
 ran_over w l over.Stalled s system is far last at =
-    let stuck : CanGoOn w l.history → ⊥ = λ can. omega (arith, subst (λ x. length (enabled_of w l.history x l.device l.offered) ≡ 0) is.underway.clean far.1, machine_goes w l.history l.device l.offered system.queues system.run system.device can) in
+    let stuck : CanGoOn w l.history → ⊥ = λ can. omega (arith, subst (λ x. length (enabled_of w l.history x (shown l.device.state) l.device.offered) ≡ 0) is.underway.clean far.1, machine_goes w l.history (shown l.device.state) l.device.offered system.queues system.run system.device can) in
     subst (Ran w l) (sym at)
     (record {
       through = is;
@@ -70,21 +71,21 @@ ran_over w l over.Broken s system is far last at = elim last [
 ]
 ran_over w l over.Torn s system is far last at = absurd far
 
-ran_fault : (w : World) (l : Left) (e : SysFault) (s : Status) → IsUnderway w l → HasFaultCause e l.faults.0 l.faults.1 → s ≡ ended_by e → Ran w l s
+ran_fault : (w : World) (l : Left) (e : SysFault) (s : Status) → IsUnderway w l → HasFaultCause e l.before.faults l.device.faults → s ≡ ended_by e → Ran w l s
 ran_fault w l fault.Memory s under cause at = subst (Ran w l) (sym at) (inr under)
 ran_fault w l fault.Lost s under cause at = subst (Ran w l) (sym at) (cause, inr under)
 
 -- the run is finished or stalled where no step is left, and else cut short
-pub ran_end : (w : World) (l : Left) (s : Status) (end : Result Over SysFault) → l.verdict ≡ Clean → Went w l.rest.0 l.rest.1 l.choices l.taken l.history l.device l.machine → IsSystem w l.history l.device l.machine → IsWhole w l.history l.device l.machine →
-    IfOk end (λ o. IsOver w l.history l.verdict l.device l.offered o) → IfOk end (λ o. (o ≡ over.Done) ⊎ (o ≡ over.Stalled)) → OnOk end (length l.choices ≡ length l.taken) →
-    HasCause l.faults.0 l.faults.1 end → Ends end (state_after w l.history).desk.fences (s, l.fences) → Ran w l s
+pub ran_end : (w : World) (l : Left) (s : Status) (end : Result Over SysFault) → l.verdict ≡ Clean → Went w l.before.rest l.choices l.taken l.history l.device → IsSystem w l.history l.device.state → IsWhole w l.history l.device.state →
+    IfOk end (λ o. IsOver w l.history l.verdict (shown l.device.state) l.device.offered o) → IfOk end (λ o. (o ≡ over.Done) ⊎ (o ≡ over.Stalled)) → OnOk end (length l.choices ≡ length l.taken) →
+    HasCause l.before.faults l.device.faults end → Ends end (state_after w l.history).desk.fences (s, l.fences) → Ran w l s
 ran_end w l s (Ok o) clean went system whole far last equal cause (inl done) =
     ran_over w l o s system (through w l (state_after w l.history).desk.fences (underway w l clean went system whole) equal done.1 refl) far last done.0
 ran_end w l s (Ok o) clean went system whole far last equal cause (inr memory) = subst (Ran w l) (sym memory) (inr (underway w l clean went system whole))
 ran_end w l s (Err e) clean went system whole far last equal cause at = ran_fault w l e s (underway w l clean went system whole) cause at
 
 -- a run that was refused before its first step
-pub ran_none : (w : World) (l : Left) (e : SysFault) (s : Status) → IsUnbegun w l → HasFaultCause e l.faults.0 l.faults.1 → s ≡ ended_by e → Ran w l s
+pub ran_none : (w : World) (l : Left) (e : SysFault) (s : Status) → IsUnbegun w l → HasFaultCause e l.before.faults l.device.faults → s ≡ ended_by e → Ran w l s
 ran_none w l fault.Memory s none cause at = subst (Ran w l) (sym at) (inl none)
 ran_none w l fault.Lost s none cause at = subst (Ran w l) (sym at) (cause, inl none)
 
@@ -275,13 +276,13 @@ said_twice : (told : Option (List ℕ)) (p : ℕ × Cause) → IsSome told → I
 said_twice None p some refused says = absurd (cc)
 said_twice (Some all) p some refused says = let e : Err p ≡ Ok says.0 = sym refused ∙ says.1 in cc
 
-lost_risen : (told : Option (List ℕ)) (l : Left) (t : Option Value) → OfTrace (IsRunOf told l status.DeviceLost) t → HasRisen l.faults.0 l.faults.1
+lost_risen : (told : Option (List ℕ)) (l : Left) (t : Option Value) → OfTrace (IsRunOf told l status.DeviceLost) t → HasRisen l.before.faults l.device.faults
 lost_risen told l None is = absurd is
 lost_risen told l (Some v) is = is.ran.0
 
 -- where a trace is given and no fault is told, the run is done, stalled or out of memory
 complete_meant : (g : Given) (t : Option Value) (l : Left) (s : Status) → IsTraceGiven g.words g.told → IsSome g.told → (HasRisen g.source.0 g.source.1 → ⊥) →
-    (HasRisen l.faults.0 l.faults.1 → ⊥) → Says g t l s → IsComplete s
+    (HasRisen l.before.faults l.device.faults → ⊥) → Says g t l s → IsComplete s
 complete_meant g t l status.Done given some reads runs is = tt
 complete_meant g t l status.Stalled given some reads runs is = tt
 complete_meant g t l (status.Usage k) given some reads runs is = absurd (bad_words g.words k is.0 given.good)
@@ -294,7 +295,7 @@ complete_meant g t l status.DeviceLost given some reads runs is = absurd (runs (
 complete_meant g t l status.Memory given some reads runs is = tt
 
 pub complete_of : (g : Given) (sink : ℕ × ℕ) (before after : Option (List ℕ)) (left : List ℕ → Left) (s : Status) → (report : IsReport g sink before after left s) →
-    IsTraceGiven g.words g.told → IsSome g.told → IsFaultless g.source sink (left report.fences).faults → IsComplete s
+    IsTraceGiven g.words g.told → IsSome g.told → IsFaultless g.source sink ((left report.fences).before.faults, (left report.fences).device.faults) → IsComplete s
 complete_of g sink before after left s report given some none = by_text report.text
   where
     by_text : Writes before after sink (output_of report.trace (outcome_of g report.trace (left report.fences) report.meant)) report.meant s → IsComplete s

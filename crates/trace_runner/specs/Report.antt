@@ -14,11 +14,10 @@ use Rattle.run_text.specs.declared.status.Status.TheVariants as status
 use Rattle.run_text.specs.Output.{output_of, refused_of}
 use Rattle.trace_text.specs.Values.{Value, value_of}
 use Rattle.trace_text.specs.WorldOf.{world_of_value}
-use Rattle.vk_types.specs.declared.plan.DevicePlan.{DevicePlan}
 use Rattle.verdicts.specs.declared.rules.Verdict.{Verdict}
 use Rattle.verdicts.specs.declared.rules.Verdict.TheVariants.{Clean}
-use Rattle.vk_sync_rules.specs.VkState.{VkState as Machine}
-use Rattle.vk_port.specs.VkState.{VkState}
+use Rattle.vk_port.specs.DeviceView.{DeviceView}
+use Rattle.vk_port.specs.Machine.{shown}
 use Rattle.sys_core.specs.declared.faults.SysFault.{SysFault}
 use Rattle.sys_core.specs.declared.faults.SysFault.TheVariants as fault
 use Rattle.sys_core.specs.declared.over.Over.{Over}
@@ -40,21 +39,28 @@ pub record Given : Type 0 where
   pub told : Option (List ℕ)
   pub source : ℕ × ℕ
 
--- what a run left: the counts of faults of the device before and after, how many free steps it had left to take before and
--- after, the choices, the steps taken, the history, the fences' last values, the device and its machine, how many free steps it
--- offers, its plan, and the verdict
+-- what a run left: the choices, the steps taken, the history, the fences' last values, the device before and after, and the
+-- verdict
 pub record Left : Type 0 where
-  pub faults : ℕ × ℕ
-  pub rest : ℕ × ℕ
   pub choices : List ℕ
   pub taken : List Step
   pub history : List Event
   pub fences : List ℕ
-  pub device : VkState
-  pub machine : Machine
-  pub offered : ℕ
-  pub plan : Option DevicePlan
+  pub before : DeviceView
+  pub device : DeviceView
   pub verdict : Verdict
+
+-- what a run left, by its parts
+abbrev pub left_by : Log → List Event → List ℕ → DeviceView → DeviceView → Left
+left_by log history fences before device = record {
+  choices = log.choices.items;
+  taken = log.taken.items;
+  history = history;
+  fences = fences;
+  before = before;
+  device = device;
+  verdict = Clean;
+}
 
 -- a text that says something: the one that the source had, where it tells it
 pub record IsRead (told : Option (List ℕ)) (v : Value) : Type 0 where
@@ -72,24 +78,24 @@ pub record IsUntouched (l : Left) : Type 0 where
   pub choices : l.choices ≡ []
   pub taken : l.taken ≡ []
   pub events : l.history ≡ []
-  pub batches : l.device.journal ≡ []
+  pub batches : l.device.state.journal ≡ []
 
 -- nothing has happened, and the device has no plan, or the world's objects as they are at first
 pub record IsUnbegun (w : World) (l : Left) : Type 0 where
   pub untouched : IsUntouched l
-  pub unopened : IsUnopened w l.plan l.device l.machine
+  pub unopened : IsUnopened w l.device
 
 -- the verdict is Clean, as it is for now; the choices lead to the history and the device by the steps that were taken, which
 -- are counted; the history is a run but for words, in which each thread's calls are the first of its script, and a run with
 -- its words where it is calm, and so in a world of rounds; the device has the batches that its operations lower to
 pub record IsUnderway (w : World) (l : Left) : Type 0 where
   pub clean : l.verdict ≡ Clean
-  pub went : Went w l.rest.0 l.rest.1 l.choices l.taken l.history l.device l.machine
+  pub went : Went w l.before.rest l.choices l.taken l.history l.device
   pub run : IsRunButWords w l.history
   pub scripts : AreOfScripts w l.history
   pub calm : IsCalm w l.history → IsRun w l.history
   pub rounds : IsOfRounds w → IsRun w l.history
-  pub device : IsDevice w l.history l.device
+  pub device : IsDevice w l.history (shown l.device.state)
 
 -- what a run leaves that was cut short
 abbrev pub IsLeft : World → Left → Type 0
@@ -111,7 +117,7 @@ pub record IsDone (w : World) (l : Left) : Type 0 where
 pub record IsStalled (w : World) (l : Left) : Type 0 where
   pub through : IsThrough w l
   pub unfinished : IsFinished w (state_after w l.history).desk → ⊥
-  pub no_step : length (enabled_of w l.history l.verdict l.device l.offered) ≡ 0
+  pub no_step : length (enabled_of w l.history l.verdict (shown l.device.state) l.device.offered) ≡ 0
   pub stuck : CanGoOn w l.history → ⊥
   pub no_rounds : IsOfRounds w → ⊥
 
@@ -125,7 +131,7 @@ Ran w l status.ReadFault = ⊥
 Ran w l status.WriteFault = ⊥
 Ran w l (status.Broken r n) = ⊥
 Ran w l (status.Torn x) = ⊥
-Ran w l status.DeviceLost = HasRisen l.faults.0 l.faults.1 × IsLeft w l
+Ran w l status.DeviceLost = HasRisen l.before.faults l.device.faults × IsLeft w l
 Ran w l status.Memory = IsLeft w l
 
 -- a trace was read, and its world was run
@@ -141,7 +147,7 @@ OfTrace P (Some v) = P v
 pub record IsStopped (t : Option Value) (l : Left) : Type 0 where
   pub no_trace : t ≡ None
   pub untouched : IsUntouched l
-  pub no_plan : l.plan ≡ None
+  pub no_plan : l.device.plan ≡ None
 
 -- what a status says of what a call was given, of the trace that was read, and of what the run left
 abbrev pub Says : Given → Option Value → Left → Status → Type 0
@@ -155,22 +161,6 @@ Says g t l (status.Broken r n) = ⊥
 Says g t l (status.Torn x) = ⊥
 Says g t l status.DeviceLost = AreGood g.words × OfTrace (IsRunOf g.told l status.DeviceLost) t
 Says g t l status.Memory = IsStopped t l ⊎ (AreGood g.words × OfTrace (IsRunOf g.told l status.Memory) t)
-
--- what a run left, by its parts
-abbrev pub left_by : Log → (ℕ × ℕ) → (ℕ × ℕ) → ℕ → Option DevicePlan → VkState → Machine → Outcome → Left
-left_by log faults rest offered plan device machine o = record {
-  faults = faults;
-  rest = rest;
-  choices = log.choices.items;
-  taken = log.taken.items;
-  history = o.history;
-  fences = o.fences;
-  device = device;
-  machine = machine;
-  offered = offered;
-  plan = plan;
-  verdict = Clean;
-}
 
 -- the world of a trace was run, or was not for want of memory
 abbrev pub RanTrace : Value → Option Value → Left → Status → Type 0

@@ -8,7 +8,9 @@ ghost use Rattle.sys_core.specs.Ahead.{IsWhole};
 ghost use Rattle.sys_core.specs.Keeps.{IsSystem};
 ghost use Rattle.verdicts.specs.declared.rules.Verdict.TheVariants.{Clean};
 ghost use Rattle.sys_core.specs.Over.{IsOver};
-ghost use Rattle.sys_core.specs.Serving.{HasCause, HasFaultCause};
+ghost use Rattle.sys_core.specs.Answered.{HasCause};
+ghost use Rattle.vk_port.specs.DeviceView.{DeviceView};
+ghost use Rattle.vk_port.specs.Machine.{shown};
 ghost use Rattle.sys_core.specs.declared.over.Over.TheVariants as over;
 ghost use Rattle.trace_runner.specs.Report.{Ends, IsReport, IsWritten, Ran, Says, Writes, IsUsageAt, IsRefusalAt, IsUnrun, IsTraceGiven, IsFaultless, IsComplete, ended_by, status_at, is_shown, refused_in, left_by, RanTrace};
 ghost use Rattle.trace_runner.specs.Steps.{Went};
@@ -95,26 +97,14 @@ fn ending_of<D: VkDevice>(
 
 /// The end of a system that took its steps.
 fn finish<D: VkDevice>(alloc: Global, sys: Sys<D>, end: Result<Over, SysFault>, log: &Log) -> Run<D>
-    requires system { IsSystem sys.world sys.history (D.state sys.device) (D.machine sys.device) }
-    requires whole { IsWhole sys.world sys.history (D.state sys.device) (D.machine sys.device) }
-    requires over { IfOk end (λ o. IsOver sys.world sys.history Clean (D.state sys.device) (D.offered sys.device) o) }
+    requires system { IsSystem sys.world sys.history sys.device.state }
+    requires whole { IsWhole sys.world sys.history sys.device.state }
+    requires over { IfOk end (λ o. IsOver sys.world sys.history Clean (shown sys.device.state) sys.device.offered o) }
     requires last { IfOk end (λ o. (o ≡ over.Done) ⊎ (o ≡ over.Stalled)) }
     requires equal { OnOk end (length log.now.choices.items ≡ length log.now.taken.items) }
-    ensures { (before rest : ℕ) → HasCause before (D.faults sys.device) end →
-        Went sys.world rest (D.rest_of sys.device) log.now.choices.items log.now.taken.items sys.history (D.state sys.device) (D.machine sys.device) →
-        Ran sys.world (record {
-          faults = (before, D.faults result.device);
-          rest = (rest, D.rest_of result.device);
-          choices = log.now.choices.items;
-          taken = log.now.taken.items;
-          history = result.history.items;
-          fences = result.fences;
-          device = D.state result.device;
-          machine = D.machine result.device;
-          offered = D.offered result.device;
-          plan = D.plan_of result.device;
-          verdict = Clean;
-        }) result.status }
+    ensures { (before : DeviceView) → HasCause before.faults sys.device.faults end →
+        Went sys.world before.rest log.now.choices.items log.now.taken.items sys.history sys.device →
+        Ran sys.world (left_by log.now result.history.items result.fences before (D.view_of result.device)) result.status }
 {
     let _choices = log.choices.len();
     let (status, fences) = ending_of(alloc, &sys, end);
@@ -137,24 +127,12 @@ fn run_world<D: VkDevice, C: Chooser>(
 ) -> Run<D>
     requires world { IsWorld world }
     requires queues { HasOneQueueAtMost world }
-    requires no_plan { D.plan_of device ≡ None }
-    requires new { (D.state device).journal ≡ [] }
+    requires no_plan { (D.view_of device).plan ≡ None }
+    requires new { (D.view_of device).state.journal ≡ [] }
     requires given { C.given choices.old ≡ [] }
     requires choices { log.old.choices.items ≡ [] }
     requires taken { log.old.taken.items ≡ [] }
-    ensures ran { Ran world (record {
-      faults = (D.faults device, D.faults result.device);
-      rest = (D.rest_of device, D.rest_of result.device);
-      choices = log.new.choices.items;
-      taken = log.new.taken.items;
-      history = result.history.items;
-      fences = result.fences;
-      device = D.state result.device;
-      machine = D.machine result.device;
-      offered = D.offered result.device;
-      plan = D.plan_of result.device;
-      verdict = Clean;
-    }) result.status }
+    ensures ran { Ran world (left_by log.new result.history.items result.fences (D.view_of device) (D.view_of result.device)) result.status }
     ensures given { C.given choices.new ≡ log.new.choices.items }
     ensures started { C.started choices.new ≡ C.started choices.old }
 {
@@ -202,10 +180,10 @@ fn run_trace<D: VkDevice, C: Chooser>(
     device: D,
     choices: &mut C,
 ) -> Ended<D>
-    requires no_plan { D.plan_of device ≡ None }
-    requires new { (D.state device).journal ≡ [] }
+    requires no_plan { (D.view_of device).plan ≡ None }
+    requires new { (D.view_of device).state.journal ≡ [] }
     requires given { C.given choices.old ≡ [] }
-    ensures ran { RanTrace (seen trace) (option_map seen result.trace) (left_by result.log (D.faults device, D.faults result.device) (D.rest_of device, D.rest_of result.device) (D.offered result.device) (D.plan_of result.device) (D.state result.device) (D.machine result.device) result.outcome) result.outcome.status }
+    ensures ran { RanTrace (seen trace) (option_map seen result.trace) (left_by result.log result.outcome.history result.outcome.fences (D.view_of device) (D.view_of result.device)) result.outcome.status }
     ensures shown { result.outcome.shown ≡ shown }
     ensures refused { result.outcome.refused ≡ refused_in (option_map seen result.trace) }
     ensures given { C.given choices.new ≡ result.log.choices.items }
@@ -245,13 +223,13 @@ fn ran<S: Source, D: VkDevice, C: Chooser>(
     device: D,
     choices: &mut C,
 ) -> Ended<D>
-    requires no_plan { D.plan_of device ≡ None }
-    requires new { (D.state device).journal ≡ [] }
+    requires no_plan { (D.view_of device).plan ≡ None }
+    requires new { (D.view_of device).state.journal ≡ [] }
     ensures says { Says (record {
       words = map string_bytes words.now;
       told = S.left source.old;
       source = (S.faults source.old, S.faults source.new);
-    }) (option_map seen result.trace) (left_by result.log (D.faults device, D.faults result.device) (D.rest_of device, D.rest_of result.device) (D.offered result.device) (D.plan_of result.device) (D.state result.device) (D.machine result.device) result.outcome) result.outcome.status }
+    }) (option_map seen result.trace) (left_by result.log result.outcome.history result.outcome.fences (D.view_of device) (D.view_of result.device)) result.outcome.status }
     ensures unread { IfErr (said_by (map string_bytes words.now)) (λ _. source.new ≡ source.old) }
     ensures undrawn { IfErr (said_by (map string_bytes words.now)) (λ _. choices.new ≡ choices.old) }
     ensures unrun { IsUnrun result.outcome.status → result.device ≡ device }
@@ -351,23 +329,19 @@ pub fn simulate<S: Source, K: Sink, D: VkDevice, C: Chooser>(
     device: D,
     choices: &mut C,
 ) -> Report<D>
-    requires no_plan { D.plan_of device ≡ None }
-    requires new { (D.state device).journal ≡ [] }
+    requires no_plan { (D.view_of device).plan ≡ None }
+    requires new { (D.view_of device).state.journal ≡ [] }
     ensures report { IsReport (record {
       words = map string_bytes words.now;
       told = S.left source.old;
       source = (S.faults source.old, S.faults source.new);
     }) (K.faults sink.old, K.faults sink.new) (K.held sink.old) (K.held sink.new) (λ fences. record {
-      faults = (D.faults device, D.faults result.device);
-      rest = (D.rest_of device, D.rest_of result.device);
       choices = result.choices.items;
       taken = result.taken.items;
       history = result.history.items;
       fences = fences;
-      device = D.state result.device;
-      machine = D.machine result.device;
-      offered = D.offered result.device;
-      plan = D.plan_of result.device;
+      before = D.view_of device;
+      device = D.view_of result.device;
       verdict = result.verdict;
     }) result.status }
     ensures unread { IfErr (said_by (map string_bytes words.now)) (λ _. source.new ≡ source.old) }
@@ -375,7 +349,7 @@ pub fn simulate<S: Source, K: Sink, D: VkDevice, C: Chooser>(
     ensures unrun { IsUnrun result.status → result.device ≡ device }
     ensures not_given { (IsTraceGiven (map string_bytes words.now) (S.left source.old) → ⊥) → result.device ≡ device }
     ensures complete { IsTraceGiven (map string_bytes words.now) (S.left source.old) → IsSome (S.left source.old) →
-        IsFaultless (S.faults source.old, S.faults source.new) (K.faults sink.old, K.faults sink.new) (D.faults device, D.faults result.device) → IsComplete result.status }
+        IsFaultless (S.faults source.old, S.faults source.new) (K.faults sink.old, K.faults sink.new) ((D.view_of device).faults, (D.view_of result.device).faults) → IsComplete result.status }
     ensures usage { IfErr (said_by (map string_bytes words.now)) (λ k. IsUsageAt k result.status) }
     ensures refused { IfOk (said_by (map string_bytes words.now)) (λ _. IfSome (S.left source.old) (λ all. IfErr (value_of all) (λ p. IsRefusalAt p result.status))) }
     ensures started { IfOk (said_by (map string_bytes words.now)) (λ said. C.started choices.new ≡ Some (number_said said)) }

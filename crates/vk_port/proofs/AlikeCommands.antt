@@ -18,7 +18,7 @@ abbrev pub Works : ℕ → VkCommand → Type 0
 Works s c = (0 < s) × (work_bits c ≡ s)
 
 -- it is summed up as its stage's bits
-with_work : (a : Ahead) (s : ℕ) (c : VkCommand) → Works s c → with_command a c ≡ record a { by = bit_or a.by s }
+pub with_work : (a : Ahead) (s : ℕ) (c : VkCommand) → Works s c → with_command a c ≡ record a { by = bit_or a.by s }
 with_work a s (Barrier from made to seen change) w = absurd (omega (arith, w.0, w.1))
 with_work a s (Copy to to_first from from_first words) w = ap (λ (x : ℕ). record a { by = bit_or a.by x }) w.1
 with_work a s (CopyImage to to_sub to_layout from from_sub from_layout) w = ap (λ (x : ℕ). record a { by = bit_or a.by x }) w.1
@@ -28,7 +28,7 @@ with_work a s (Clear target word) w = ap (λ (x : ℕ). record a { by = bit_or a
 with_work a s (Dispatch routine count t0 t1 u0 b0) w = ap (λ (x : ℕ). record a { by = bit_or a.by x }) w.1
 
 -- it waits for barriers alone
-lets_work : (a : Ahead) (s : ℕ) (c : VkCommand) → Works s c → lets a c ≡ (bit_and a.to s == 0)
+pub lets_work : (a : Ahead) (s : ℕ) (c : VkCommand) → Works s c → lets a c ≡ (bit_and a.to s == 0)
 lets_work a s (Barrier from made to seen change) w = absurd (omega (arith, w.0, w.1))
 lets_work a s (Copy to to_first from from_first words) w = ap (λ (x : ℕ). bit_and a.to x == 0) w.1
 lets_work a s (CopyImage to to_sub to_layout from from_sub from_layout) w = ap (λ (x : ℕ). bit_and a.to x == 0) w.1
@@ -38,7 +38,7 @@ lets_work a s (Clear target word) w = ap (λ (x : ℕ). bit_and a.to x == 0) w.1
 lets_work a s (Dispatch routine count t0 t1 u0 b0) w = ap (λ (x : ℕ). bit_and a.to x == 0) w.1
 
 -- commands of which one works in the stage: one more does not change their sum
-abbrev Has : ℕ → Ahead → Type 0
+abbrev pub Has : ℕ → Ahead → Type 0
 Has s a = bit_or a.by s ≡ a.by
 
 has_more : (s : ℕ) (a : Ahead) (e : VkCommand) → Has s a → Has s (with_command a e)
@@ -50,10 +50,10 @@ has_more s a (CopyOut buffer first pitch image sub layout) h = or_past a.by 4 s 
 has_more s a (Clear target word) h = or_past a.by 2 s h
 has_more s a (Dispatch routine count t0 t1 u0 b0) h = or_past a.by 2 s h
 
-has_work : (s : ℕ) (a : Ahead) (c : VkCommand) → Works s c → Has s (with_command a c)
+pub has_work : (s : ℕ) (a : Ahead) (c : VkCommand) → Works s c → Has s (with_command a c)
 has_work s a c w = rw (with_work a s c w) (or_twice a.by s)
 
-more_is_same : (s : ℕ) (a : Ahead) (c : VkCommand) → Works s c → Has s a → with_command a c ≡ a
+pub more_is_same : (s : ℕ) (a : Ahead) (c : VkCommand) → Works s c → Has s a → with_command a c ≡ a
 more_is_same s a c w h = with_work a s c w ∙ ap (λ (x : ℕ). record a { by = x }) h
 
 -- one step fewer behind a step that may be there

@@ -7,8 +7,7 @@ use Rattle.vk_sync_rules.specs.VkState.{VkState as Machine, counts_of, batch_in}
 use Rattle.vk_port.specs.declared.lanes.Lane.{Lane}
 use Rattle.vk_port.specs.declared.lanes.Running.{Running}
 use Rattle.vk_port.specs.Journal.{of_queue, first_number, are_numbered}
-use Rattle.vk_port.specs.Machine.{Shows, IsCounted, running_of, from_number, unfinished}
-use Rattle.vk_port.specs.VkState.{VkState}
+use Rattle.vk_port.specs.Machine.{IsCounted, running_of, from_number, unfinished, lanes_of}
 use Rattle.vk_port.proofs.Earlier.{same_item}
 use Rattle.vk_port.proofs.Numbering.{number_at, numbered_from, from_place, batch_at, place_in, queue_in}
 use Rattle.vk_port.proofs.Views.{lane_at, lane_is}
@@ -98,18 +97,18 @@ module _ (v : Machine) (counted : IsCounted v) where
     pub lane_of_batch : (n : ℕ) (b : Batch) → batch_in q n v.journal ≡ Some b → ended ≤ n → slice_get (unfinished v q).batches (n - ended) ≡ Some (running_of v.done q b)
     lane_of_batch n b is le = mapped_at (running_of v.done q) (left_of v q) (n - ended) b (left_of_batch n b is le)
 
-module _ (v : Machine) (u : VkState) (shows : Shows v u) where
+module _ (v : Machine) where
   -- the lane of a queue
-  pub lane_there : (q : ℕ) (lane : Lane) → slice_get u.lanes q ≡ Some lane → (q < length v.queues) × (lane ≡ unfinished v q)
+  pub lane_there : (q : ℕ) (lane : Lane) → slice_get (lanes_of v) q ≡ Some lane → (q < length v.queues) × (lane ≡ unfinished v q)
   lane_there q lane is =
-      let found = lane_is v 0 (length v.queues) q lane (subst (λ (ls : List Lane). slice_get ls q ≡ Some lane) shows.lanes is) in
+      let found = lane_is v 0 (length v.queues) q lane is in
       let same : 0 + q ≡ q = omega arith in
       (found.0, found.1 ∙ ap (unfinished v) same)
 
-  pub there_lane : (q : ℕ) → q < length v.queues → slice_get u.lanes q ≡ Some (unfinished v q)
+  pub there_lane : (q : ℕ) → q < length v.queues → slice_get (lanes_of v) q ≡ Some (unfinished v q)
   there_lane q there =
       let same : 0 + q ≡ q = omega arith in
-      subst (λ (ls : List Lane). slice_get ls q ≡ Some (unfinished v q)) (sym shows.lanes) (lane_at v 0 (length v.queues) q there ∙ ap (λ (i : ℕ). Some (unfinished v i)) same)
+      lane_at v 0 (length v.queues) q there ∙ ap (λ (i : ℕ). Some (unfinished v i)) same
 
 -- the batch at a place of a queue's lane, which has a number
 pub record BatchOfLane (v : Machine) (q n place : ℕ) (r : Running) : Type 0 where
@@ -120,10 +119,10 @@ pub record BatchOfLane (v : Machine) (q n place : ℕ) (r : Running) : Type 0 wh
   pub left : slice_get (left_of v q) place ≡ Some batch
   pub number : n ≡ (counts_of v q).ended + place
 
-module _ (v : Machine) (u : VkState) (shows : Shows v u) (counted : IsCounted v) where
-  pub batch_of_step : (q n place : ℕ) (lane : Lane) (r : Running) → slice_get u.lanes q ≡ Some lane → slice_get lane.batches place ≡ Some r → r.batch.number ≡ n → BatchOfLane v q n place r
+module _ (v : Machine) (counted : IsCounted v) where
+  pub batch_of_step : (q n place : ℕ) (lane : Lane) (r : Running) → slice_get (lanes_of v) q ≡ Some lane → slice_get lane.batches place ≡ Some r → r.batch.number ≡ n → BatchOfLane v q n place r
   batch_of_step q n place lane r there is number =
-      let of_lane = lane_there v u shows q lane there in
+      let of_lane = lane_there v q lane there in
       let found = batch_of_lane v counted q of_lane.0 place r (subst (λ (l : Lane). slice_get l.batches place ≡ Some r) of_lane.1 is) in
       let counts : found.0.number ≡ (counts_of v q).ended + place = number_at (counts_of v q).ended (left_of v q) place found.0 (left_numbered v counted q of_lane.0) found.1 in
       let same : n ≡ found.0.number = sym number ∙ ap (λ (x : Running). x.batch.number) found.2 in

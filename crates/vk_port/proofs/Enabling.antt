@@ -28,10 +28,9 @@ use Rattle.vk_port.specs.declared.steps.Stepped.{Stepped}
 use Rattle.vk_port.specs.declared.steps.Stepped.TheVariants.{Passed, Ran, Bumped, Free}
 use Rattle.vk_port.specs.Enabled.{all_done}
 use Rattle.vk_port.specs.Journal.{of_queue, first_number, command_fits}
-use Rattle.vk_port.specs.Machine.{Shows, IsCounted, marks, running_of, unfinished, vk_step}
+use Rattle.vk_port.specs.Machine.{IsCounted, marks, running_of, shown, unfinished, vk_step}
 use Rattle.vk_port.specs.Meaning.{IsPass, IsUndone, IsBefore, IsInOrder, IsCommand, IsBump, IsEnabled}
 use Rattle.vk_port.specs.Orders.{stages_of, waits_for, orders}
-use Rattle.vk_port.specs.VkState.{VkState}
 use Rattle.vk_port.proofs.Counted.{BatchOfLane, left_of, lane_there, there_lane, lane_of_batch, batch_of_lane, queue_there}
 use Rattle.vk_port.proofs.Earlier.{same_item}
 use Rattle.vk_port.proofs.Numbering.{number_at, batch_at, place_in}
@@ -131,7 +130,7 @@ before_from a b h =
           (and_from (a.number == b.number) (nat_lt a.index b.index) (eq-eqb a.number b.number same.0) (lt-ltb a.index b.index same.1))
     ]
 
-module _ (v : Machine) (u : VkState) (shows : Shows v u) (counted : IsCounted v) where
+module _ (v : Machine) (counted : IsCounted v) where
   -- the number of the batch of a number
   number_of : (q n : ℕ) (b : Batch) → batch_in q n v.journal ≡ Some b → b.number ≡ n
   number_of q n b is =
@@ -141,20 +140,20 @@ module _ (v : Machine) (u : VkState) (shows : Shows v u) (counted : IsCounted v)
       omega (arith, number, past)
 
   -- a pass that is offered
-  pass_enabled : (q n : ℕ) → IsPass u q n → is_enabled v (Pass q n) ≡ true
+  pass_enabled : (q n : ℕ) → IsPass (shown v) q n → is_enabled v (Pass q n) ≡ true
   pass_enabled q n e =
-      let facts = next_to_pass v u shows counted q n e in
-      let waits : reached v.timelines facts.0.batch.waits ≡ true = subst (λ (ts : List ℕ). reached ts facts.0.batch.waits ≡ true) shows.timelines (subst (λ (r : Running). reached u.timelines r.batch.waits ≡ true) facts.0.running e.waits) in
+      let facts = next_to_pass v counted q n e in
+      let waits : reached v.timelines facts.0.batch.waits ≡ true = subst (λ (r : Running). reached v.timelines r.batch.waits ≡ true) facts.0.running e.waits in
       and_from (n == (counts_of v q).passed) (elim (batch_in q n v.journal) [ None ↦ false | Some b ↦ reached v.timelines b.waits ])
       (eq-eqb n (counts_of v q).passed facts.1) (ap (λ (o : Option Batch). elim o [ None ↦ false | Some b ↦ reached v.timelines b.waits ]) facts.0.found ∙ waits)
 
   -- an end that is offered
-  end_enabled : (q n : ℕ) → IsBump u q n → is_enabled v (Bump q n) ≡ true
+  end_enabled : (q n : ℕ) → IsBump (shown v) q n → is_enabled v (Bump q n) ≡ true
   end_enabled q n e =
-      let facts = first_to_end v u shows counted q n e in
+      let facts = first_to_end v counted q n e in
       let b = facts.0.batch in
       let number : b.number ≡ n = number_of q n b facts.0.found in
-      let passed : e.lane.passed ≡ (counts_of v q).passed - (counts_of v q).ended = ap (λ (l : Lane). l.passed) (lane_there v u shows q e.lane e.there).1 in
+      let passed : e.lane.passed ≡ (counts_of v q).passed - (counts_of v q).ended = ap (λ (l : Lane). l.passed) (lane_there v q e.lane e.there).1 in
       let some : 0 < e.lane.passed = e.passed in
       let first = facts.1 in
       let less : n < (counts_of v q).passed = omega (arith, passed, some, first) in
@@ -167,7 +166,7 @@ module _ (v : Machine) (u : VkState) (shows : Shows v u) (counted : IsCounted v)
       (lt-ltb n (counts_of v q).passed less)
       (ap (λ (o : Option Batch). elim o [ None ↦ false | Some b ↦ are_all_done v.done q (placed_from n 1 b.commands) ]) facts.0.found ∙ done))
 
-  module _ (ended : AreEnded v) (q n k : ℕ) (e : IsCommand u q n k) where
+  module _ (ended : AreEnded v) (q n k : ℕ) (e : IsCommand (shown v) q n k) where
     abbrev here : Place
     here = record { number = n; index = k }
 
@@ -179,7 +178,7 @@ module _ (v : Machine) (u : VkState) (shows : Shows v u) (counted : IsCounted v)
       place = record { number = b.number; index = 1 + i }
 
       facts : BatchOfLane v q n e.place e.running × (n < (counts_of v q).passed)
-      facts = command_to_do v u shows counted q n k e
+      facts = command_to_do v counted q n k e
 
       number : b.number ≡ first_number q + at
       number = number_at (first_number q) (of_queue q v.journal) at b (counted.numbered q) is
@@ -190,7 +189,7 @@ module _ (v : Machine) (u : VkState) (shows : Shows v u) (counted : IsCounted v)
       -- it is not ordered before the command, where it is in the lane
       in_lane : is_done v.done q place ≡ false → is_before place here ≡ true → (counts_of v q).ended ≤ b.number → machine_orders (sort_of x) (sort_of e.command) ≡ false
       in_lane left before late =
-          let ordered = subst (λ (l : Lane). IsInOrder l e.place (k - 1) e.command) (lane_there v u shows q e.lane e.there).1 e.in_order in
+          let ordered = subst (λ (l : Lane). IsInOrder l e.place (k - 1) e.command) (lane_there v q e.lane e.there).1 e.in_order in
           let at_place = facts.0.number in
           let some = e.counted in
           let earlier : IsBefore (b.number - (counts_of v q).ended) i e.place (k - 1) = elim (before_parts place here before) [
@@ -222,7 +221,7 @@ module _ (v : Machine) (u : VkState) (shows : Shows v u) (counted : IsCounted v)
     -- a command that is offered
     command_enabled : is_enabled v (Command q n k []) ≡ true
     command_enabled =
-        let facts = command_to_do v u shows counted q n k e in
+        let facts = command_to_do v counted q n k e in
         let b = facts.0.batch in
         let number : b.number ≡ n = number_of q n b facts.0.found in
         let some = e.counted in
@@ -234,27 +233,27 @@ module _ (v : Machine) (u : VkState) (shows : Shows v u) (counted : IsCounted v)
         (subst (λ (m : ℕ). is_done v.done q (record { number = b.number; index = m }) ≡ false) index
         (mark_at v.done q b.number 1 (k - 1) b.commands false (subst (λ (r : Running). slice_get r.done (k - 1) ≡ Some false) facts.0.running e.left))) in
         let runs : machine_can_run v q here [] (machine_command_at v q here) ≡ true =
-        ap (machine_can_run v q here []) (command_found v u shows counted q n k e)
+        ap (machine_can_run v q here []) (command_found v counted q n k e)
         ∙ and_from (0 == length (slots_of e.command)) (is_free v q here e.command)
-        (no_slots v.plan e.command (command_fits_plan v u shows counted q n k e)) (each_placed (lets v.done q here e.command) q v.journal lets_go) in
+        (no_slots v.plan e.command (command_fits_plan v counted q n k e)) (each_placed (lets v.done q here e.command) q v.journal lets_go) in
         and_from (nat_le (counts_of v q).ended n && nat_lt n (counts_of v q).passed) (not (is_done v.done q here) && machine_can_run v q here [] (machine_command_at v q here))
         (and_from (nat_le (counts_of v q).ended n) (nat_lt n (counts_of v q).passed) began (lt-ltb n (counts_of v q).passed facts.1))
         (and_from (not (is_done v.done q here)) (machine_can_run v q here [] (machine_command_at v q here)) (ap not left) runs)
 
   -- a step that is offered can be taken
-  pub offered_enabled : AreEnded v → (s : Stepped) → IsEnabled u s → (x : VkStep) × (vk_step s [] ≡ Some x) × (is_enabled v x ≡ true)
+  pub offered_enabled : AreEnded v → (s : Stepped) → IsEnabled (shown v) s → (x : VkStep) × (vk_step s [] ≡ Some x) × (is_enabled v x ≡ true)
   offered_enabled ended (Passed q n) e = (Pass q n, refl, pass_enabled q n e)
   offered_enabled ended (Ran q n k) e = (Command q n k [], refl, command_enabled ended q n k e)
   offered_enabled ended (Bumped q n) e = (Bump q n, refl, end_enabled q n e)
   offered_enabled ended Free e = absurd e
 
   -- a pass that can be taken
-  enabled_pass_means : (q n : ℕ) → is_enabled v (Pass q n) ≡ true → IsPass u q n
+  enabled_pass_means : (q n : ℕ) → is_enabled v (Pass q n) ≡ true → IsPass (shown v) q n
   enabled_pass_means q n h = by_batch (batch_in q n v.journal) refl parts.1 where
     parts : ((n == (counts_of v q).passed) ≡ true) × (elim (batch_in q n v.journal) [ None ↦ false | Some b ↦ reached v.timelines b.waits ] ≡ true)
     parts = and_parts (n == (counts_of v q).passed) (elim (batch_in q n v.journal) [ None ↦ false | Some b ↦ reached v.timelines b.waits ]) h
 
-    by_batch : (o : Option Batch) → batch_in q n v.journal ≡ o → elim o [ None ↦ false | Some b ↦ reached v.timelines b.waits ] ≡ true → IsPass u q n
+    by_batch : (o : Option Batch) → batch_in q n v.journal ≡ o → elim o [ None ↦ false | Some b ↦ reached v.timelines b.waits ] ≡ true → IsPass (shown v) q n
     by_batch None found waits = absurd (false≢true waits)
     by_batch (Some b) found waits =
         let there = queue_there v counted q n b found in
@@ -262,15 +261,15 @@ module _ (v : Machine) (u : VkState) (shows : Shows v u) (counted : IsCounted v)
         let order = counted.ended_passed q in
         record {
           lane = unfinished v q;
-          there = there_lane v u shows q there;
+          there = there_lane v q there;
           next = running_of v.done q b;
           is_next = subst (λ (m : ℕ). slice_get (unfinished v q).batches (m - (counts_of v q).ended) ≡ Some (running_of v.done q b)) next (lane_of_batch v counted q there n b found (omega (arith, next, order)));
           number = number_of q n b found;
-          waits = subst (λ (ts : List ℕ). reached ts b.waits ≡ true) (sym shows.timelines) waits;
+          waits = waits;
         }
 
   -- an end that can be taken
-  enabled_end_means : (q n : ℕ) → is_enabled v (Bump q n) ≡ true → IsBump u q n
+  enabled_end_means : (q n : ℕ) → is_enabled v (Bump q n) ≡ true → IsBump (shown v) q n
   enabled_end_means q n h = by_batch (batch_in q n v.journal) refl rest.1 where
     parts : ((n == (counts_of v q).ended) ≡ true) × ((nat_lt n (counts_of v q).passed && elim (batch_in q n v.journal) [ None ↦ false | Some b ↦ are_all_done v.done q (placed_from n 1 b.commands) ]) ≡ true)
     parts = and_parts (n == (counts_of v q).ended) (nat_lt n (counts_of v q).passed && elim (batch_in q n v.journal) [ None ↦ false | Some b ↦ are_all_done v.done q (placed_from n 1 b.commands) ]) h
@@ -278,7 +277,7 @@ module _ (v : Machine) (u : VkState) (shows : Shows v u) (counted : IsCounted v)
     rest : (nat_lt n (counts_of v q).passed ≡ true) × (elim (batch_in q n v.journal) [ None ↦ false | Some b ↦ are_all_done v.done q (placed_from n 1 b.commands) ] ≡ true)
     rest = and_parts (nat_lt n (counts_of v q).passed) (elim (batch_in q n v.journal) [ None ↦ false | Some b ↦ are_all_done v.done q (placed_from n 1 b.commands) ]) parts.1
 
-    by_batch : (o : Option Batch) → batch_in q n v.journal ≡ o → elim o [ None ↦ false | Some b ↦ are_all_done v.done q (placed_from n 1 b.commands) ] ≡ true → IsBump u q n
+    by_batch : (o : Option Batch) → batch_in q n v.journal ≡ o → elim o [ None ↦ false | Some b ↦ are_all_done v.done q (placed_from n 1 b.commands) ] ≡ true → IsBump (shown v) q n
     by_batch None found done = absurd (false≢true done)
     by_batch (Some b) found done =
         let there = queue_there v counted q n b found in
@@ -288,7 +287,7 @@ module _ (v : Machine) (u : VkState) (shows : Shows v u) (counted : IsCounted v)
         let place : n - (counts_of v q).ended ≡ 0 = omega (arith, first) in
         record {
           lane = unfinished v q;
-          there = there_lane v u shows q there;
+          there = there_lane v q there;
           first = running_of v.done q b;
           is_first = subst (λ (m : ℕ). slice_get (unfinished v q).batches m ≡ Some (running_of v.done q b)) place (lane_of_batch v counted q there n b found (omega (arith, first)));
           number = number;
@@ -304,10 +303,10 @@ module _ (v : Machine) (u : VkState) (shows : Shows v u) (counted : IsCounted v)
       (omega arith, subst (λ (i : ℕ). slice_get b.commands i ≡ Some c) at is)
 
   -- a command that can be taken
-  enabled_command_means : (q n k : ℕ) → is_enabled v (Command q n k []) ≡ true → IsCommand u q n k
+  enabled_command_means : (q n k : ℕ) → is_enabled v (Command q n k []) ≡ true → IsCommand (shown v) q n k
   enabled_command_means q n k h = record {
     lane = unfinished v q;
-    there = there_lane v u shows q there;
+    there = there_lane v q there;
     place = n - (counts_of v q).ended;
     passed = omega (arith, began, less);
     running = running_of v.done q b;
@@ -386,7 +385,7 @@ module _ (v : Machine) (u : VkState) (shows : Shows v u) (counted : IsCounted v)
           absurd (true≢false (sym done ∙ is_left))
 
   -- a step that can be taken is one that may be offered
-  pub enabled_offered : (s : Stepped) (x : VkStep) → vk_step s [] ≡ Some x → is_enabled v x ≡ true → IsEnabled u s
+  pub enabled_offered : (s : Stepped) (x : VkStep) → vk_step s [] ≡ Some x → is_enabled v x ≡ true → IsEnabled (shown v) s
   enabled_offered (Passed q n) x is h = enabled_pass_means q n (subst (λ (y : VkStep). is_enabled v y ≡ true) (sym (same_item (Pass q n) x is)) h)
   enabled_offered (Ran q n k) x is h = enabled_command_means q n k (subst (λ (y : VkStep). is_enabled v y ≡ true) (sym (same_item (Command q n k []) x is)) h)
   enabled_offered (Bumped q n) x is h = enabled_end_means q n (subst (λ (y : VkStep). is_enabled v y ≡ true) (sym (same_item (Bump q n) x is)) h)

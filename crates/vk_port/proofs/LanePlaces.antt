@@ -200,7 +200,7 @@ first_fronts_are zero = refl
 first_fronts_are (suc n) = first_fronts_are n
 
 -- a command more that is done
-set_all : (done : List Bool) (i n : ℕ) → list_all (λ mark. mark) (take n done) ≡ true → list_all (λ mark. mark) (take n (set done i true)) ≡ true
+pub set_all : (done : List Bool) (i n : ℕ) → list_all (λ mark. mark) (take n done) ≡ true → list_all (λ mark. mark) (take n (set done i true)) ≡ true
 set_all done i zero h = refl
 set_all [] i (suc n) h = refl
 set_all (x ∷ done) zero (suc n) h = (and_parts x (list_all (λ mark. mark) (take n done)) h).1

@@ -15,6 +15,7 @@ pub mod Valid
 pub mod Falls
 pub mod ValidLanes
 pub mod AlikeCommands
+pub mod Blocks
 pub mod ReadySteps
 pub mod Matching
 pub mod Agreeing

@@ -1,7 +1,6 @@
 -- Batches of a queue that are numbered without a gap: those from a number on, and the one of a number.
 use Rattle.std.specs.Prelude.{nat_lt}
 use Rattle.std.proofs.Common.{◌≡◌, ℕ, zero, suc, ◌+◌, ◌-◌, ◌≤◌, ◌==◌, ◌∙◌, Bool, true, false, ◌&&◌, cond, List, [], ◌∷◌, ◌++◌, length, drop, refl, sym, ap, subst, arith, Some, slice_get, inl, inr}
-use Rattle.std.specs.List.{list_all}
 use Rattle.std.proofs.lemmas.Bool.{and_parts, eqb-true, cases_lt, cases_Bool}
 use Rattle.std.proofs.lemmas.Option.{none-some}
 use Rattle.std.proofs.Math.Seq.{drop-nil}
@@ -149,14 +148,3 @@ queue_in q n (x ∷ j) b is = by_queue (x.queue == q) (x.number == n) is (queue_
   by_queue true true is rest = (zero, is)
   by_queue true false is rest = let found = rest is in (suc found.0, found.1)
   by_queue false s is rest = rest is
-
--- a test of each batch holds of the one of a number
-pub each_batch_in : (p : Batch → Bool) (q n : ℕ) (j : List Batch) (b : Batch) → list_all p j ≡ true → batch_in q n j ≡ Some b → p b ≡ true
-each_batch_in p q n [] b all is = absurd (none-some b is)
-each_batch_in p q n (x ∷ j) b all is = by_test ((x.queue == q) && (x.number == n)) is (each_batch_in p q n j b both.1) where
-  both : (p x ≡ true) × (list_all p j ≡ true)
-  both = and_parts (p x) (list_all p j) all
-
-  by_test : (t : Bool) → cond t (Some x) (batch_in q n j) ≡ Some b → (batch_in q n j ≡ Some b → p b ≡ true) → p b ≡ true
-  by_test true is rest = subst (λ (y : Batch). p y ≡ true) (same_item x b is) both.0
-  by_test false is rest = rest is

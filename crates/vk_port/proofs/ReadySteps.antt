@@ -114,7 +114,7 @@ none_undone (r ∷ rs) h =
     rw (none_left r.batch.commands r.done parts.0) (none_undone rs parts.1)
 
 -- a mark that is not set
-not_all : (done : List Bool) (i : ℕ) → slice_get done i ≡ Some false → list_all (λ mark. mark) done ≡ false
+pub not_all : (done : List Bool) (i : ℕ) → slice_get done i ≡ Some false → list_all (λ mark. mark) done ≡ false
 not_all [] i is = absurd (none-some false is)
 not_all (false ∷ done) i is = refl
 not_all (true ∷ done) zero is = absurd (true≢false (same_item true false is))

@@ -19,8 +19,7 @@ use Rattle.vk_port.specs.declared.steps.Stepped.TheVariants.{Passed, Ran, Bumped
 use Rattle.vk_port.specs.After.{after_found}
 use Rattle.vk_port.specs.Agreement.{AgreeEach}
 use Rattle.vk_port.specs.Journal.{command_fits}
-use Rattle.vk_port.specs.Machine.{Shows, IsCounted}
-use Rattle.vk_port.specs.VkState.{VkState}
+use Rattle.vk_port.specs.Machine.{IsCounted, shown}
 use Rattle.vk_port.proofs.Agreeing.{agree_copy, agree_host, agree_past}
 use Rattle.vk_port.proofs.Earlier.{same_item}
 use Rattle.vk_port.specs.declared.steps.Stepped.{Stepped}
@@ -55,15 +54,15 @@ words_found v q p None c words is fits agree = absurd (none-some c is)
 words_found v q p (Some d) c words is fits agree =
     subst (λ (x : VkCommand). AgreeEach (after_found (Some c) words) (numbers_after v q p [] x).buffers) (sym (same_item d c is)) (words_done v q p c words fits agree)
 
-pub words_step : (v : Machine) (u : VkState) → Shows v u → IsCounted v → (s : Stepped) → IsEnabled u s → (words : List (List ℕ)) → AgreeEach words v.numbers.buffers →
-    AgreeEach (words_after u s words) (after_stepped v s []).numbers.buffers
-words_step v u shows counted (Passed q n) e words agree = agree
-words_step v u shows counted (Ran q n k) e words agree =
+pub words_step : (v : Machine) → IsCounted v → (s : Stepped) → IsEnabled (shown v) s → (words : List (List ℕ)) → AgreeEach words v.numbers.buffers →
+    AgreeEach (words_after (shown v) s words) (after_stepped v s []).numbers.buffers
+words_step v counted (Passed q n) e words agree = agree
+words_step v counted (Ran q n k) e words agree =
     subst (λ (o : Option VkCommand). AgreeEach (after_found o words) (after_run v q (record { number = n; index = k }) [] (machine_command_at v q (record { number = n; index = k }))).numbers.buffers)
-    (sym (found_in_lane v u shows counted q n k e))
-    (words_found v q (record { number = n; index = k }) (machine_command_at v q (record { number = n; index = k })) e.command words (command_found v u shows counted q n k e) (command_fits_plan v u shows counted q n k e) agree)
-words_step v u shows counted (Bumped q n) e words agree = agree
-words_step v u shows counted Free e words agree = agree
+    (sym (found_in_lane v counted q n k e))
+    (words_found v q (record { number = n; index = k }) (machine_command_at v q (record { number = n; index = k })) e.command words (command_found v counted q n k e) (command_fits_plan v counted q n k e) agree)
+words_step v counted (Bumped q n) e words agree = agree
+words_step v counted Free e words agree = agree
 
 -- behind words that the host writes
 pub words_written : (v : Machine) (buffer first : ℕ) (new : List ℕ) (words : List (List ℕ)) → AgreeEach words v.numbers.buffers →

@@ -1,4 +1,4 @@
--- The state of the Vulkan machine after a step, a submission, and an access of the host.
+-- What the steps of the Vulkan machine depend on after a step and a submission, and the words after a command.
 use Rattle.std.specs.Prelude.{ℕ, suc, ◌+◌, ◌-◌, ◌==◌, true, false, List, [], ◌∷◌, ◌++◌, length, drop, replicate, slice_get, slice_set, slice_index_or, Option, Some, None, if◌then◌else◌}
 use Rattle.dx_base.specs.Lists.{changed_at}
 pub use Rattle.dx_base.specs.Lists.{put, range_of}

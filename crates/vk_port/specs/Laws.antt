@@ -13,7 +13,7 @@ use Rattle.vk_port.specs.After.{after_step, after_submit}
 use Rattle.vk_port.specs.Enabled.{enabled_steps}
 use Rattle.vk_port.specs.Journal.{next_number, fits_plan}
 use Rattle.vk_port.specs.Left.{steps_left}
-use Rattle.vk_port.specs.Machine.{Shows, IsCounted, vk_step, after_stepped}
+use Rattle.vk_port.specs.Machine.{IsCounted, shown, vk_step, after_stepped}
 use Rattle.vk_port.specs.Meaning.{IsEnabled}
 use Rattle.vk_port.specs.Valid.{IsValid, Matches}
 use Rattle.vk_port.specs.VkState.{VkState, first_state}
@@ -47,20 +47,20 @@ pub record StaysMatched : Type 0 where
   pub steps : (plan : DevicePlan) (v : VkState) (s : Stepped) → Matches plan v → Matches plan (after_step v s)
   pub submissions : (plan : DevicePlan) (v : VkState) (b : Batch) → Matches plan v → Matches plan (after_submit v b)
 
--- what a device has of the machine's state is that from the first one on, and the machine's batches stay counted
+-- the view of the machine's state goes on as the machine does, and the machine's batches stay counted
 pub record StaysShown : Type 0 where
-  pub at_first : (plan : DevicePlan) → Shows (first_machine plan) (first_state plan) × IsCounted (first_machine plan)
-  pub steps : (v : Machine) (u : VkState) (s : Stepped) → Shows v u → IsCounted v → IsEnabled u s → Shows (after_stepped v s []) (after_step u s) × IsCounted (after_stepped v s [])
-  pub submissions : (v : Machine) (u : VkState) (b : Batch) → Shows v u → IsCounted v → b.queue < length v.queues → b.number ≡ next_number b.queue u.journal → fits_plan v.plan b ≡ true →
-      Shows (after_vk_step v (vk.Submit b)) (after_submit u b) × IsCounted (after_vk_step v (vk.Submit b))
-  pub host_writes : (v : Machine) (u : VkState) (buffer first : ℕ) (words : List ℕ) → Shows v u → IsCounted v →
-      Shows (after_vk_step v (vk.HostWrite buffer first words)) u × IsCounted (after_vk_step v (vk.HostWrite buffer first words))
-  pub host_reads : (v : Machine) (u : VkState) (buffer first : ℕ) (words : List ℕ) → Shows v u → IsCounted v →
-      Shows (after_vk_step v (vk.HostRead buffer first words)) u × IsCounted (after_vk_step v (vk.HostRead buffer first words))
+  pub at_first : (plan : DevicePlan) → (shown (first_machine plan) ≡ first_state plan) × IsCounted (first_machine plan)
+  pub steps : (v : Machine) (s : Stepped) → IsCounted v → IsEnabled (shown v) s → (shown (after_stepped v s []) ≡ after_step (shown v) s) × IsCounted (after_stepped v s [])
+  pub submissions : (v : Machine) (b : Batch) → IsCounted v → b.queue < length v.queues → b.number ≡ next_number b.queue v.journal → fits_plan v.plan b ≡ true →
+      (shown (after_vk_step v (vk.Submit b)) ≡ after_submit (shown v) b) × IsCounted (after_vk_step v (vk.Submit b))
+  pub host_writes : (v : Machine) (buffer first : ℕ) (words : List ℕ) →
+      (shown (after_vk_step v (vk.HostWrite buffer first words)) ≡ shown v) × (IsCounted v → IsCounted (after_vk_step v (vk.HostWrite buffer first words)))
+  pub host_reads : (v : Machine) (buffer first : ℕ) (words : List ℕ) →
+      (shown (after_vk_step v (vk.HostRead buffer first words)) ≡ shown v) × (IsCounted v → IsCounted (after_vk_step v (vk.HostRead buffer first words)))
 
 -- the steps that are offered are those of the machine, where the commands of batches that have ended are done
 pub record OffersWhatIsEnabled : Type 0 where
-  pub offered : (v : Machine) (u : VkState) (k : ℕ) (s : Stepped) → Shows v u → IsCounted v → AreEnded v → slice_get (enabled_steps u) k ≡ Some s →
+  pub offered : (v : Machine) (k : ℕ) (s : Stepped) → IsCounted v → AreEnded v → slice_get (enabled_steps (shown v)) k ≡ Some s →
       (x : VkStep) × (vk_step s [] ≡ Some x) × (is_enabled v x ≡ true)
-  pub enabled : (v : Machine) (u : VkState) (s : Stepped) (x : VkStep) → Shows v u → IsCounted v → vk_step s [] ≡ Some x → is_enabled v x ≡ true →
-      (k : ℕ) × (slice_get (enabled_steps u) k ≡ Some s)
+  pub enabled : (v : Machine) (s : Stepped) (x : VkStep) → IsCounted v → vk_step s [] ≡ Some x → is_enabled v x ≡ true →
+      (k : ℕ) × (slice_get (enabled_steps (shown v)) k ≡ Some s)

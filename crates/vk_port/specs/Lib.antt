@@ -16,7 +16,9 @@ pub mod Causes
 pub mod Offers
 pub mod Found
 pub mod Ahead
+pub mod Blocks
 pub mod Seen
+pub mod DeviceView
 pub mod Lost
 pub mod Stored
 pub mod Tied

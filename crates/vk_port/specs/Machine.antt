@@ -1,4 +1,4 @@
--- The state of the Vulkan machine as a device keeps it: a view of what each queue has yet to do.
+-- A view of the Vulkan machine's state: what each queue has yet to do.
 use Rattle.std.specs.Prelude.{ℕ, zero, suc, ◌≡◌, ◌<◌, ◌≤◌, ◌+◌, ◌-◌, Bool, true, List, [], ◌∷◌, map, length, nat_lt, Option, Some, None, if◌then◌else◌}
 use Rattle.std.specs.List.{list_all}
 use Rattle.vk_types.specs.declared.batches.Batch.{Batch}
@@ -45,11 +45,9 @@ lanes_from v q (suc k) = unfinished v q ∷ lanes_from v (q + 1) k
 abbrev pub lanes_of : Machine → List Lane
 lanes_of v = lanes_from v 0 (length v.queues)
 
--- what a device has of the machine's state: timelines and journal, and each queue's unfinished batches
-pub record Shows (v : Machine) (u : VkState) : Type 0 where
-  pub timelines : u.timelines ≡ v.timelines
-  pub journal : u.journal ≡ v.journal
-  pub lanes : u.lanes ≡ lanes_of v
+-- what there is yet to do of the machine's state: the timelines, the journal, and each queue's unfinished batches
+abbrev pub shown : Machine → VkState
+shown v = record { timelines = v.timelines; journal = v.journal; lanes = lanes_of v }
 
 -- the batches of each queue are numbered without a gap up to the next one, a queue that is not there has none, and done
 -- commands are of batches that have passed

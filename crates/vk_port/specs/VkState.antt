@@ -1,10 +1,10 @@
--- The state of the Vulkan machine.
+-- What of the Vulkan machine's state its steps depend on, as steps are offered.
 use Rattle.std.specs.Prelude.{ℕ, List, [], replicate, slice_index_or}
 use Rattle.vk_types.specs.declared.batches.Batch.{Batch}
 use Rattle.vk_port.specs.declared.lanes.Lane.{Lane}
 use Rattle.vk_types.specs.declared.plan.DevicePlan.{DevicePlan}
 
--- what the Vulkan machine knows
+-- the part of the Vulkan machine's state that says which steps can be taken; `shown` computes it
 pub record VkState : Type 0 where
   -- the value of each timeline semaphore
   pub timelines : List ℕ

@@ -1,12 +1,12 @@
 //! What the commands that are not done hold back.
 
-ghost use Rattle.std.specs.Prelude.{◌≡◌, true};
+ghost use Rattle.std.specs.Prelude.{◌≡◌, true, bit_or};
 ghost use Rattle.vk_port.specs.Ahead.{no_ahead, with_stages, with_command, lets_stages, lets, summary};
 ghost use Rattle.vk_port.specs.DeviceStages.{is_closed, is_of_device as does_wait};
 ghost use Rattle.vk_port.specs.Enabled.{undone};
 ghost use Rattle.vk_port.specs.Fronts.{is_done_to};
 
-use crate::lanes::Running;
+use crate::tracked::{BLOCK, Tracked};
 use vk_types::{Stages, VkCommand};
 
 /// What some commands that are not done hold back, as bits of stages.
@@ -54,6 +54,16 @@ impl Ahead {
         }
     }
 
+    /// More commands that work in a stage of these bits.
+    pub fn with_work(self, bits: u32) -> Ahead
+        ensures { result ≡ record self { by = bit_or self.by bits } }
+    {
+        Ahead {
+            to: self.to,
+            by: self.by | bits,
+        }
+    }
+
     /// Whether the commands let a later one run.
     pub fn lets(self, command: VkCommand) -> bool
         ensures { result ≡ lets self command }
@@ -84,17 +94,26 @@ impl Ahead {
     }
 
     /// The commands of a batch that are not done, too. Those in front of the place `from` are.
-    pub fn with_undone(self, running: &Running, from: usize) -> Ahead
+    pub fn with_undone(self, running: &Tracked, from: usize) -> Ahead
         requires { is_done_to from running.now ≡ true }
         ensures { result ≡ summary self (undone running.now) }
     {
         let mut ahead = self;
-        let count = running.batch.commands.len().min(running.done.len());
-        for i in from..count {
-            if *running.done.at(i) {
+        let mut i = from;
+        let count = running.count();
+        while i < count {
+            if let Some(behind) = running.behind_block(i, ahead, usize::MAX) {
+                i += BLOCK;
+                ahead = behind.ahead;
                 continue;
             }
-            ahead = ahead.with(*running.batch.commands.at(i));
+            if running.is_done(i) {
+                i += 1;
+                continue;
+            }
+            let command = running.command(i);
+            ahead = ahead.with(command);
+            i += 1;
         }
         ahead
     }

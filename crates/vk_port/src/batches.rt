@@ -6,6 +6,7 @@ ghost use Rattle.dx_base.specs.Lists.{changed_at};
 ghost use Rattle.vk_port.specs.After.{with_done};
 
 use crate::lanes::Running;
+use crate::tracked::Tracked;
 use dx_base::Memory;
 use std::alloc::Global;
 use std::collections::VecDeque;
@@ -14,7 +15,7 @@ use std::marker::Model;
 /// Unfinished batches of a queue, oldest first. Contracts see their list.
 #[derive(Debug, Drop)]
 pub struct Batches {
-    items: VecDeque<Running>,
+    items: VecDeque<Tracked>,
 }
 
 impl Model for Batches {
@@ -45,11 +46,29 @@ impl Batches {
     pub fn get(&self, at: usize) -> Option<&Running>
         ensures { option_copied result ≡ slice_get self.now at }
     {
-        self.items.get(at)
+        match self.items.get(at) {
+            None => None,
+            Some(running) => Some(running.running()),
+        }
     }
 
     /// The batch at a place.
     pub fn at(&self, at: usize) -> &Running
+        requires { at < length self.now }
+        ensures { slice_get self.now at ≡ Some result.now }
+    {
+        self.items[at].running()
+    }
+
+    /// The same, with its blocks.
+    pub fn get_tracked(&self, at: usize) -> Option<&Tracked>
+        ensures { option_copied result ≡ slice_get self.now at }
+    {
+        self.items.get(at)
+    }
+
+    /// The batch at a place, with its blocks.
+    pub fn tracked(&self, at: usize) -> &Tracked
         requires { at < length self.now }
         ensures { slice_get self.now at ≡ Some result.now }
     {
@@ -73,7 +92,7 @@ impl Batches {
     }
 
     /// One more batch. Refused for memory, all stays, and the batch is let go.
-    pub fn push(&mut self, running: Running) -> Result<(), Memory>
+    pub fn push(&mut self, running: Tracked) -> Result<(), Memory>
         ensures ok { OnOk result (self.new ≡ self.old ++ running ∷ []) }
         ensures same { OnErr result (self.new ≡ self.old) }
     {

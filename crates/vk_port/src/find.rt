@@ -2,7 +2,7 @@
 
 ghost use Rattle.std.specs.Prelude.{◌≡◌, ◌<◌, ◌+◌, ◌&&◌, ◌++◌, ◌-◌, ◌^◌, min, [], length, take, true};
 ghost use Rattle.vk_port.specs.Ahead.{batch_steps, lane_steps};
-ghost use Rattle.vk_port.specs.Enabled.{ready_pass, passes, lane_commands, commands, all_done, ready_bump, bumps};
+ghost use Rattle.vk_port.specs.Enabled.{ready_pass, passes, lane_commands, commands, ready_bump, bumps};
 ghost use Rattle.vk_port.specs.DeviceStages.{batch_of_device, lane_of_device, lanes_of_device, is_closed};
 ghost use Rattle.vk_port.specs.Found.{found};
 ghost use Rattle.vk_port.specs.Fronts.{is_done_to, is_front, are_fronts, ready_steps, count_of};
@@ -10,8 +10,9 @@ ghost use Rattle.vk_port.specs.Fronts.{is_done_to, is_front, are_fronts, ready_s
 use crate::ahead::Ahead;
 use crate::found::{Found, find_if};
 use crate::fronts::Front;
-use crate::lanes::{Lane, Running};
+use crate::lanes::Lane;
 use crate::steps::Stepped;
+use crate::tracked::{BLOCK, Tracked};
 use dx_base::Seq;
 use vk_types::are_reached;
 
@@ -44,22 +45,15 @@ fn find_passes(timelines: &Seq<u64>, lanes: &Seq<Lane>, queues: u32, k: usize) -
     Found::Left(left)
 }
 
-/// Whether all commands of a batch are done.
-fn is_done(running: &Running) -> bool
-    ensures { result ≡ all_done running.now }
-{
-    running.done.as_slice().iter().all(|mark| *mark)
-}
-
 /// Searches the end of a lane's first batch.
 fn find_bump(queue: u32, lane: &Lane, k: usize) -> Found
     ensures { result ≡ found (ready_bump queue lane.now) k }
 {
-    match lane.batches.get(0) {
+    match lane.batches.get_tracked(0) {
         None => Found::Left(k),
         Some(first) => find_if(
-            0 < lane.passed && is_done(first),
-            Stepped::Bumped(queue, first.batch.number),
+            0 < lane.passed && first.is_all_done(),
+            Stepped::Bumped(queue, first.number()),
             k,
         ),
     }
@@ -92,7 +86,7 @@ fn is_last(of_device: bool, ahead: Ahead) -> bool
 /// stage of the device, it does not look behind a barrier that is not done and has all of them behind it.
 fn find_in_batch(
     queue: u32,
-    running: &Running,
+    running: &Tracked,
     from: usize,
     before: Ahead,
     of_device: bool,
@@ -104,18 +98,27 @@ fn find_in_batch(
 {
     let mut ahead = before;
     let mut left = k;
-    let count = running.batch.commands.len().min(running.done.len());
-    for i in from..count {
-        if *running.done.at(i) {
+    let mut i = from;
+    let count = running.count();
+    while i < count {
+        if let Some(behind) = running.behind_block(i, ahead, left) {
+            i += BLOCK;
+            ahead = behind.ahead;
+            left = behind.left;
             continue;
         }
-        let command = *running.batch.commands.at(i);
-        let step = Stepped::Ran(queue, running.batch.number, i as u64 + 1);
+        if running.is_done(i) {
+            i += 1;
+            continue;
+        }
+        let command = running.command(i);
+        let step = Stepped::Ran(queue, running.number(), i as u64 + 1);
         match find_if(ahead.lets(command), step, left) {
             Found::At(step) => return Found::At(step),
             Found::Left(rest) => left = rest,
         }
         ahead = ahead.with(command);
+        i += 1;
         if is_last(of_device, ahead) {
             return Found::Left(left);
         }
@@ -132,15 +135,14 @@ fn find_in_lane(queue: u32, lane: &Lane, front: Front, of_device: bool, k: usize
 {
     let mut ahead = Ahead::none();
     let mut left = k;
-    let mut from = front.command;
     for i in front.batch..lane.passed.min(lane.batches.len()) {
-        let running = lane.batches.at(i);
+        let running = lane.batches.tracked(i);
+        let from = running.front();
         match find_in_batch(queue, running, from, ahead, of_device, left) {
             Found::At(step) => return Found::At(step),
             Found::Left(rest) => left = rest,
         }
         ahead = ahead.with_undone(running, from);
-        from = 0;
         if is_last(of_device, ahead) {
             return Found::Left(left);
         }

@@ -18,7 +18,7 @@ pub struct Front {
 }
 
 /// The place of the first command of a batch that is not done, from a place on in front of which all are.
-fn done_to(running: &Running, from: usize) -> usize
+pub fn done_to(running: &Running, from: usize) -> usize
     requires { is_done_to from running.now ≡ true }
     ensures { is_done_to result running.now ≡ true }
 {
@@ -99,7 +99,7 @@ fn is_unset(mark: Option<bool>) -> bool
 }
 
 /// The bits of the stage in which a command works; none of a barrier.
-fn work_bits(command: VkCommand) -> u32
+pub fn work_bits(command: VkCommand) -> u32
     ensures { result ≡ bits_of_work command }
 {
     match command {

@@ -8,6 +8,7 @@ ghost use Rattle.vk_port.specs.VkState.{no_lane};
 
 use crate::ahead::is_of_device;
 use crate::batches::Batches;
+use crate::tracked::Tracked;
 use dx_base::{Memory, Seq};
 use std::alloc::Global;
 use vk_types::{Batch, VkCommand};
@@ -136,7 +137,7 @@ impl Lane {
     }
 
     /// One more batch, of which nothing is done.
-    pub fn add(&mut self, running: Running) -> Result<(), Memory>
+    pub fn add(&mut self, running: Tracked) -> Result<(), Memory>
         ensures ok { OnOk result (self.new ≡ with_batch running self.old) }
         ensures same { OnErr result (self.new ≡ self.old) }
     {

@@ -35,8 +35,8 @@ pub fn states_keep_their_objects()
     ensures { StaysMatched }
 {}
 
-/// The first state is what a device has of the machine's first state, and each thing that is done keeps it so: the
-/// timelines, the journal, and each queue's unfinished batches are those of the machine.
+/// The view of the machine's first state is the first one, and each thing that is done moves the view as it moves the
+/// machine: its timelines, its journal, and each queue's unfinished batches.
 pub fn states_show_the_machine()
     ensures { StaysShown }
 {}

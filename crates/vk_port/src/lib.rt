@@ -18,8 +18,7 @@ mod read_laws;
 mod sets;
 mod steps;
 mod store;
-#[cfg(test)]
-mod tests;
+mod tracked;
 mod words;
 
 pub use device::VkDevice;

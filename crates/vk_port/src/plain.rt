@@ -1,20 +1,19 @@
 //! A device without caches and without free steps.
 
 ghost use Rattle.std.specs.Prelude.{◌≡◌, ◌<◌, ◌≤◌, ◌+◌, true, [], List, length, slice_get, Option, Some, None, IfSome, IsSome, IfOk, OnOk, OnErr};
-ghost use Rattle.vk_port.specs.Causes.{HasCause};
-ghost use Rattle.vk_port.specs.Lost.{CountsCall};
-ghost use Rattle.vk_port.specs.Offers.{steps_offered, rest_taken, IsInside};
-ghost use Rattle.vk_port.specs.Plans.{has_only_buffers};
-ghost use Rattle.vk_port.specs.VkState.{first_state};
 ghost use Rattle.std.proofs.Props.{props};
 ghost use Rattle.vk_port.specs.Agreement.{Agree, AgreeEach-prop, host_numbers};
-ghost use Rattle.vk_port.specs.Machine.{after_stepped};
-ghost use Rattle.vk_sync_rules.specs.Rules.{after_step as after_vk_step};
-ghost use Rattle.vk_sync_rules.specs.VkState.{first_state as first_machine};
-ghost use Rattle.vk_types.specs.declared.steps.VkStep.TheVariants.{Submit, HostWrite, HostRead};
-ghost use Rattle.vk_port.specs.VkSteps.{enabled_steps, after_step, after_submit, next_number, fits_plan};
-ghost use Rattle.vk_port.specs.declared.steps.Stepped.TheVariants.{Free};
+ghost use Rattle.vk_port.specs.DeviceView.{Answered};
+ghost use Rattle.vk_port.specs.Lost.{CountsCall};
+ghost use Rattle.vk_port.specs.Machine.{shown, after_stepped};
+ghost use Rattle.vk_port.specs.Offers.{steps_offered, rest_taken, IsInside};
+ghost use Rattle.vk_port.specs.Plans.{has_only_buffers};
 ghost use Rattle.vk_port.specs.Tied.{IsTied};
+ghost use Rattle.vk_port.specs.VkSteps.{enabled_steps, next_number, fits_plan};
+ghost use Rattle.vk_port.specs.declared.steps.Stepped.TheVariants.{Free};
+ghost use Rattle.vk_sync_rules.specs.Rules.{after_step};
+ghost use Rattle.vk_sync_rules.specs.VkState.{first_state};
+ghost use Rattle.vk_types.specs.declared.steps.VkStep.TheVariants.{Submit, HostWrite, HostRead};
 
 use crate::calls::Calls;
 use crate::device::VkDevice;
@@ -27,7 +26,7 @@ use crate::store::Store;
 use crate::words::copy_at;
 use dx_base::Seq;
 use std::alloc::Global;
-use vk_types::{Batch, DevicePlan, timeline_value};
+use vk_types::{Batch, DevicePlan};
 
 /// A device without caches and without free steps: a command's step does its accesses at once.
 #[derive(Drop)]
@@ -40,17 +39,13 @@ pub struct PlainDevice {
 }
 
 impl PlainDevice {
-    ghost use Rattle.std.specs.Prelude.{None, []};
-    ghost use Rattle.vk_port.specs.Seen.{no_state, no_machine};
+    ghost use Rattle.vk_port.specs.DeviceView.{no_view};
 
     /// A new device, which has no plan, and to which nothing was submitted. `fails` are the numbers of the
     /// calls that answer `Lost`: of all calls of `create`, `submit`, `host_read`, `host_write` and `step`,
     /// counted together from 1.
     pub fn new(alloc: Global, fails: Vec<u64>) -> PlainDevice
-        ensures plan { ⟦<PlainDevice as VkDevice>⟧.plan_of result ≡ None }
-        ensures state { ⟦<PlainDevice as VkDevice>⟧.state result ≡ no_state }
-        ensures machine { ⟦<PlainDevice as VkDevice>⟧.machine result ≡ no_machine }
-        ensures faults { ⟦<PlainDevice as VkDevice>⟧.faults result ≡ 0 }
+        ensures view { ⟦<PlainDevice as VkDevice>⟧.view_of result ≡ no_view }
         ensures fails { result.calls.fails ≡ fails.items }
         ensures made { result.calls.made ≡ 0 }
     {
@@ -68,33 +63,18 @@ impl PlainDevice {
 }
 
 impl VkDevice for PlainDevice {
-    ghost use Rattle.vk_port.specs.Plain.{plan_of, state, machine, rest_of, offered, faults};
+    ghost use Rattle.vk_port.specs.Plain.{view_of};
 
-    ghost plan_of = { plan_of };
-
-    ghost state = { state };
-
-    ghost machine = { machine };
-
-    ghost rest_of = { rest_of };
-
-    ghost offered = { offered };
-
-    ghost faults = { faults };
+    ghost view_of = { view_of };
 
     fn create(&mut self, plan: &DevicePlan) -> Result<(), DeviceFault>
-        requires no_plan { plan_of self.old ≡ None }
-        requires new { (state self.old).journal ≡ [] }
+        requires no_plan { (view_of self.old).plan ≡ None }
+        requires new { (view_of self.old).state.journal ≡ [] }
         requires buffers { has_only_buffers plan.now ≡ true }
-        ensures plan { OnOk result (plan_of self.new ≡ Some plan.now) }
-        ensures state { OnOk result (state self.new ≡ first_state plan.now) }
-        ensures rest { rest_of self.new ≡ rest_of self.old }
-        ensures machine { OnOk result (machine self.new ≡ first_machine plan.now) }
-        ensures same_plan { OnErr result (plan_of self.new ≡ None) }
-        ensures same_state { OnErr result (state self.new ≡ state self.old) }
-        ensures same_machine { OnErr result (machine self.new ≡ machine self.old) }
-        ensures faults { faults self.old ≤ faults self.new }
-        ensures cause { HasCause (faults self.old) (faults self.new) result }
+        ensures plan { OnOk result ((view_of self.new).plan ≡ Some plan.now) }
+        ensures state { OnOk result ((view_of self.new).state ≡ first_state plan.now) }
+        ensures rest { (view_of self.new).rest ≡ (view_of self.old).rest }
+        ensures answered { Answered (view_of self.old) (view_of self.new) result }
         ensures counts { CountsCall self.old.calls self.new.calls result }
     {
         self.calls.begin()?;
@@ -106,17 +86,12 @@ impl VkDevice for PlainDevice {
     }
 
     fn submit(&mut self, batch: Batch) -> Result<(), DeviceFault>
-        requires number { batch.number ≡ next_number batch.queue (state self.old).journal }
-        requires plan { IsSome (plan_of self.old) }
-        requires fits { IfSome (plan_of self.old) (λ plan. fits_plan plan batch ≡ true) }
-        ensures state { OnOk result (state self.new ≡ after_submit (state self.old) batch) }
-        ensures machine { OnOk result (machine self.new ≡ after_vk_step (machine self.old) (Submit batch)) }
-        ensures plan { plan_of self.new ≡ plan_of self.old }
-        ensures rest { rest_of self.new ≡ rest_of self.old }
-        ensures same_state { OnErr result (state self.new ≡ state self.old) }
-        ensures same_machine { OnErr result (machine self.new ≡ machine self.old) }
-        ensures faults { faults self.old ≤ faults self.new }
-        ensures cause { HasCause (faults self.old) (faults self.new) result }
+        requires number { batch.number ≡ next_number batch.queue (view_of self.old).state.journal }
+        requires plan { IsSome (view_of self.old).plan }
+        requires fits { IfSome (view_of self.old).plan (λ plan. fits_plan plan batch ≡ true) }
+        ensures state { OnOk result ((view_of self.new).state ≡ after_step (view_of self.old).state (Submit batch)) }
+        ensures rest { (view_of self.new).rest ≡ (view_of self.old).rest }
+        ensures answered { Answered (view_of self.old) (view_of self.new) result }
         ensures counts { CountsCall self.old.calls self.new.calls result }
     {
         self.calls.begin()?;
@@ -127,20 +102,16 @@ impl VkDevice for PlainDevice {
     }
 
     fn counter(&self, timeline: u32) -> u64 {
-        timeline_value(&self.store.timelines, timeline)
+        self.store.progress.value(timeline)
     }
 
     fn host_read(&mut self, buffer: u32, first: u32, count: u32) -> Result<Vec<u32>, DeviceFault>
-        requires plan { IsSome (plan_of self.old) }
-        requires inside { IsInside (machine self.old) buffer first count }
-        ensures seen { IfOk result (λ read. Agree read.items (host_numbers (machine self.old) buffer first count)) }
-        ensures state { state self.new ≡ state self.old }
-        ensures machine { IfOk result (λ read. machine self.new ≡ after_vk_step (machine self.old) (HostRead buffer first read.items)) }
-        ensures plan { plan_of self.new ≡ plan_of self.old }
-        ensures rest { rest_of self.new ≡ rest_of self.old }
-        ensures same_machine { OnErr result (machine self.new ≡ machine self.old) }
-        ensures faults { faults self.old ≤ faults self.new }
-        ensures cause { HasCause (faults self.old) (faults self.new) result }
+        requires plan { IsSome (view_of self.old).plan }
+        requires inside { IsInside (view_of self.old).state buffer first count }
+        ensures seen { IfOk result (λ read. Agree read.items (host_numbers (view_of self.old).state buffer first count)) }
+        ensures state { IfOk result (λ read. (view_of self.new).state ≡ after_step (view_of self.old).state (HostRead buffer first read.items)) }
+        ensures rest { (view_of self.new).rest ≡ (view_of self.old).rest }
+        ensures answered { Answered (view_of self.old) (view_of self.new) result }
         ensures counts { CountsCall self.old.calls self.new.calls result }
     {
         self.calls.begin()?; // A read is lost too, though it changes nothing.
@@ -152,15 +123,11 @@ impl VkDevice for PlainDevice {
     }
 
     fn host_write(&mut self, buffer: u32, first: u32, words: &[u32]) -> Result<(), DeviceFault>
-        requires plan { IsSome (plan_of self.old) }
-        requires inside { IsInside (machine self.old) buffer first (length words.now) }
-        ensures state { state self.new ≡ state self.old }
-        ensures machine { OnOk result (machine self.new ≡ after_vk_step (machine self.old) (HostWrite buffer first words.now)) }
-        ensures plan { plan_of self.new ≡ plan_of self.old }
-        ensures rest { rest_of self.new ≡ rest_of self.old }
-        ensures same_machine { OnErr result (machine self.new ≡ machine self.old) }
-        ensures faults { faults self.old ≤ faults self.new }
-        ensures cause { HasCause (faults self.old) (faults self.new) result }
+        requires plan { IsSome (view_of self.old).plan }
+        requires inside { IsInside (view_of self.old).state buffer first (length words.now) }
+        ensures state { OnOk result ((view_of self.new).state ≡ after_step (view_of self.old).state (HostWrite buffer first words.now)) }
+        ensures rest { (view_of self.new).rest ≡ (view_of self.old).rest }
+        ensures answered { Answered (view_of self.old) (view_of self.new) result }
         ensures counts { CountsCall self.old.calls self.new.calls result }
     {
         self.calls.begin()?;
@@ -174,23 +141,17 @@ impl VkDevice for PlainDevice {
     }
 
     fn step<S: Sets>(&mut self, k: usize, _sets: &mut S) -> Result<Stepped, DeviceFault>
-        requires plan { IsSome (plan_of self.old) }
-        requires offered { k < steps_offered (state self.old) (offered self.old) }
+        requires plan { IsSome (view_of self.old).plan }
+        requires offered { k < steps_offered (shown (view_of self.old).state) (view_of self.old).offered }
         requires unread { S.given _sets.old ≡ [] }
-        requires sizes { IfSome (plan_of self.old) (λ plan. S.sizes _sets.old ≡ plan.heaps) }
-        ensures named { k < length (enabled_steps (state self.old)) → IfOk result (λ s. slice_get (enabled_steps (state self.old)) k ≡ Some s) }
-        ensures free { length (enabled_steps (state self.old)) ≤ k → IfOk result (λ s. s ≡ Free) }
-        ensures state { IfOk result (λ s. state self.new ≡ after_step (state self.old) s) }
-        ensures machine { IfOk result (λ s. machine self.new ≡ after_stepped (machine self.old) s []) }
-        ensures rest { IfOk result (λ s. rest_of self.old ≡ rest_of self.new + rest_taken s) }
+        requires sizes { IfSome (view_of self.old).plan (λ plan. S.sizes _sets.old ≡ plan.heaps) }
+        ensures named { k < length (enabled_steps (shown (view_of self.old).state)) → IfOk result (λ s. slice_get (enabled_steps (shown (view_of self.old).state)) k ≡ Some s) }
+        ensures free { length (enabled_steps (shown (view_of self.old).state)) ≤ k → IfOk result (λ s. s ≡ Free) }
+        ensures state { IfOk result (λ s. (view_of self.new).state ≡ after_stepped (view_of self.old).state s []) }
+        ensures rest { IfOk result (λ s. (view_of self.old).rest ≡ (view_of self.new).rest + rest_taken s) }
         ensures loads { S.given _sets.new ≡ [] }
         ensures sizes { S.sizes _sets.new ≡ S.sizes _sets.old }
-        ensures plan { plan_of self.new ≡ plan_of self.old }
-        ensures same_state { OnErr result (state self.new ≡ state self.old) }
-        ensures same_machine { OnErr result (machine self.new ≡ machine self.old) }
-        ensures same_rest { OnErr result (rest_of self.new ≡ rest_of self.old) }
-        ensures faults { faults self.old ≤ faults self.new }
-        ensures cause { HasCause (faults self.old) (faults self.new) result }
+        ensures answered { Answered (view_of self.old) (view_of self.new) result }
         ensures counts { CountsCall self.old.calls self.new.calls result }
     {
         self.calls.begin()?;
@@ -209,6 +170,6 @@ impl VkDevice for PlainDevice {
     }
 
     fn journal(&self) -> &[Batch] {
-        self.store.journal.as_slice()
+        self.store.progress.batches()
     }
 }

@@ -7,7 +7,8 @@ ghost use Rattle.vk_port.specs.Fronts.{is_numbered};
 ghost use Rattle.vk_port.specs.After.{command_at, lane_after_run, lane_after_pass, lane_after_bump, with_batch};
 ghost use Rattle.vk_port.specs.VkState.{no_lane};
 
-use crate::lanes::{Lane, Running};
+use crate::lanes::Lane;
+use crate::tracked::Tracked;
 use dx_base::{Memory, Seq};
 use std::alloc::Global;
 use vk_types::VkCommand;
@@ -61,7 +62,7 @@ pub fn bump(lanes: &mut Seq<Lane>, queue: u32)
 }
 
 /// One more batch of a queue, of which nothing is done.
-pub fn add(lanes: &mut Seq<Lane>, queue: u32, running: Running) -> Result<(), Memory>
+pub fn add(lanes: &mut Seq<Lane>, queue: u32, running: Tracked) -> Result<(), Memory>
     requires { queue < length lanes.old }
     ensures ok { OnOk result (lanes.new ≡ changed_at (with_batch running) queue lanes.old) }
     ensures same { OnErr result (lanes.new ≡ lanes.old) }

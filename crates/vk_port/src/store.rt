@@ -4,26 +4,26 @@ ghost use Rattle.std.specs.Prelude.{◌≡◌, ◌<◌, ◌&&◌, [], length, ma
 ghost use Rattle.vk_port.specs.DeviceStages.{batch_of_device, lanes_of_device};
 ghost use Rattle.vk_port.specs.Fronts.{are_fronts, ready_steps, count_of};
 ghost use Rattle.vk_port.specs.Valid.{AreValidLanes};
+ghost use Rattle.vk_sync_rules.specs.Progress.{journal_of};
 
 use crate::find::{count_behind, count_steps, find_step};
 use crate::found::Found;
 use crate::fronts::{self, Front};
-use crate::lanes::{Lane, Running};
+use crate::lanes::Lane;
 use crate::queues;
 use crate::steps::Stepped;
+use crate::tracked::Tracked;
 use crate::words::{first_words, put_at, run_found};
-use dx_base::{Memory, Room, Seq};
+use dx_base::{Memory, Seq};
 use std::alloc::Global;
+use vk_sync_rules::Progress;
 use vk_types::{Batch, DevicePlan, set_timelines};
 
-/// The words of the buffers, the timelines, all batches that were submitted, and the unfinished ones
-/// of each queue.
+/// The words of the buffers, and how far the work of queues has come: of each queue the unfinished batches are kept.
 #[derive(Drop)]
 pub struct Store {
     pub words: Seq<Seq<u32>>,
-    pub timelines: Seq<u64>,
-    pub journal: Room<Batch>,
-    pub lanes: Seq<Lane>,
+    pub progress: Progress<Lane>,
     /// How many queues there are.
     pub queues: u32,
     /// Whether each command so far waits for a stage of the device. It is asked once, when a batch comes.
@@ -32,19 +32,19 @@ pub struct Store {
     pub fronts: Seq<Front>,
     /// How many steps can be taken; the last `usize`, where there are more.
     pub ready: usize,
-    ghost counted: { length lanes ≡ queues },
+    ghost counted: { length progress.lanes ≡ queues },
     ghost each: { length fronts ≡ queues },
-    ghost done: { are_fronts fronts lanes ≡ true },
-    ghost valid: { ∥ AreValidLanes journal.items lanes ∥₁ },
-    ghost ready_is: { ready ≡ count_of (ready_steps timelines lanes) },
-    ghost known: { of_device ≡ true → lanes_of_device lanes ≡ true },
+    ghost done: { are_fronts fronts progress.lanes ≡ true },
+    ghost valid: { ∥ AreValidLanes (journal_of progress) progress.lanes ∥₁ },
+    ghost ready_is: { ready ≡ count_of (ready_steps progress.timelines progress.lanes) },
+    ghost known: { of_device ≡ true → lanes_of_device progress.lanes ≡ true },
 }
 
 /// Whether each command so far waits for a stage of the device, and each of a batch.
-fn all_of_device(so_far: bool, running: &Running) -> bool
+fn all_of_device(so_far: bool, running: &Tracked) -> bool
     ensures { result ≡ (so_far && batch_of_device running.now) }
 {
-    so_far && running.is_of_device()
+    so_far && running.running().is_of_device()
 }
 
 impl Store {
@@ -55,22 +55,21 @@ impl Store {
     ghost use Rattle.vk_port.specs.Meaning.{IsEnabled, IsPass, IsCommand, IsBump};
     ghost use Rattle.vk_port.specs.Journal.{next_number};
     ghost use Rattle.vk_port.specs.Found.{found};
-    ghost use Rattle.vk_port.specs.Seen.{no_state};
+    ghost use Rattle.vk_port.specs.Machine.{shown};
+    ghost use Rattle.vk_port.specs.Seen.{no_machine};
     ghost use Rattle.vk_port.specs.Stored.{state_of};
     ghost use Rattle.vk_port.specs.VkState.{first_state};
     ghost use Rattle.vk_port.specs.declared.steps.Stepped.TheVariants.{Passed, Ran, Bumped};
 
     /// No objects.
     pub fn empty(alloc: Global) -> Store
-        ensures state { state_of result ≡ no_state }
+        ensures state { state_of result ≡ shown no_machine }
         ensures words { result.words ≡ [] }
         ensures queues { result.queues ≡ 0 }
     {
         Store {
             words: Seq::new(alloc),
-            timelines: Seq::new(alloc),
-            journal: Room::new(alloc),
-            lanes: Seq::new(alloc),
+            progress: Progress::empty(alloc),
             queues: 0,
             of_device: true,
             fronts: Seq::new(alloc),
@@ -86,9 +85,11 @@ impl Store {
     {
         Ok(Store {
             words: first_words(alloc, plan)?,
-            timelines: Seq::from_vec(vec![in alloc; 0; plan.timelines as usize]?),
-            journal: Room::new(alloc),
-            lanes: queues::first_lanes(alloc, plan.queues)?,
+            progress: Progress::new(
+                alloc,
+                plan.timelines,
+                queues::first_lanes(alloc, plan.queues)?,
+            )?,
             queues: plan.queues,
             of_device: true,
             fronts: fronts::first_fronts(alloc, plan.queues)?,
@@ -101,8 +102,8 @@ impl Store {
         ensures { result ≡ found (enabled_steps (state_of self.now)) k }
     {
         find_step(
-            &self.timelines,
-            &self.lanes,
+            &self.progress.timelines,
+            &self.progress.lanes,
             &self.fronts,
             self.queues,
             self.of_device,
@@ -114,23 +115,23 @@ impl Store {
     #[tactic(auto, using(crate::proofs::Lists::length_changed))]
     pub fn submit(&mut self, alloc: Global, batch: Batch) -> Result<(), Memory>
         requires queue { batch.queue < self.old.queues }
-        requires number { batch.number ≡ next_number batch.queue self.old.journal.items }
+        requires number { batch.number ≡ next_number batch.queue (journal_of self.old.progress) }
         ensures ok { OnOk result (state_of self.new ≡ after_submit (state_of self.old) batch) }
         ensures same { OnErr result (state_of self.new ≡ state_of self.old) }
         ensures words { self.new.words ≡ self.old.words }
         ensures queues { self.new.queues ≡ self.old.queues }
     {
-        let running = Running::new(alloc, &batch)?;
+        let running = Tracked::new(alloc, &batch)?;
         let of_device = all_of_device(self.of_device, &running);
-        self.journal.reserve()?;
+        self.progress.reserve()?;
         let queue = batch.queue;
-        queues::add(&mut self.lanes, queue, running)?;
-        fronts::advance(&mut self.fronts, &self.lanes, queue);
+        queues::add(&mut self.progress.lanes, queue, running)?;
+        fronts::advance(&mut self.fronts, &self.progress.lanes, queue);
         self.of_device = of_device;
-        self.journal.push_reserved(batch);
+        self.progress.submit(batch);
         self.ready = count_steps(
-            &self.timelines,
-            &self.lanes,
+            &self.progress.timelines,
+            &self.progress.lanes,
             &self.fronts,
             self.queues,
             self.of_device,
@@ -164,10 +165,10 @@ impl Store {
         ensures words { self.new.words ≡ self.old.words }
         ensures queues { self.new.queues ≡ self.old.queues }
     {
-        queues::pass(&mut self.lanes, queue);
+        queues::pass(&mut self.progress.lanes, queue);
         self.ready = count_steps(
-            &self.timelines,
-            &self.lanes,
+            &self.progress.timelines,
+            &self.progress.lanes,
             &self.fronts,
             self.queues,
             self.of_device,
@@ -184,15 +185,15 @@ impl Store {
         ensures same_words { OnErr result (self.new.words ≡ self.old.words) }
         ensures queues { self.new.queues ≡ self.old.queues }
     {
-        let command = queues::command_of(&self.lanes, queue, number, place);
+        let command = queues::command_of(&self.progress.lanes, queue, number, place);
         run_found(alloc, &mut self.words, command)?;
-        queues::mark(&mut self.lanes, queue, number, place);
-        fronts::advance(&mut self.fronts, &self.lanes, queue);
+        queues::mark(&mut self.progress.lanes, queue, number, place);
+        fronts::advance(&mut self.fronts, &self.progress.lanes, queue);
         let front = *self.fronts.at(queue as usize);
-        let alike = front.has_alike(self.lanes.at(queue as usize), number, command);
+        let alike = front.has_alike(self.progress.lanes.at(queue as usize), number, command);
         self.ready = count_behind(
-            &self.timelines,
-            &self.lanes,
+            &self.progress.timelines,
+            &self.progress.lanes,
             &self.fronts,
             self.queues,
             self.of_device,
@@ -211,14 +212,21 @@ impl Store {
         ensures queues { self.new.queues ≡ self.old.queues }
     {
         set_timelines(
-            &mut self.timelines,
-            &self.lanes.at(queue as usize).batches.at(0).batch.sets,
+            &mut self.progress.timelines,
+            &self
+                .progress
+                .lanes
+                .at(queue as usize)
+                .batches
+                .at(0)
+                .batch
+                .sets,
         );
-        fronts::bump(&mut self.fronts, &self.lanes, queue);
-        queues::bump(&mut self.lanes, queue);
+        fronts::bump(&mut self.fronts, &self.progress.lanes, queue);
+        queues::bump(&mut self.progress.lanes, queue);
         self.ready = count_steps(
-            &self.timelines,
-            &self.lanes,
+            &self.progress.timelines,
+            &self.progress.lanes,
             &self.fronts,
             self.queues,
             self.of_device,

@@ -42,6 +42,38 @@ const DONE_ROWS: [Row; 6] = [
     ),
 ];
 
+/// Calls of one thread that signals and waits.
+const HOST_ROWS: [Row; 3] = [
+    (
+        DECLARATIONS,
+        "hostsignal f 7\nvalue f\nhostsignal f 3\nvalue f\nhostsignal f 9\nvalue f\nhostwait f 5\nend\n",
+        Status::Done,
+        "t 2 value 7\nt 4 value 3\nt 6 value 9\nfence f 9\n",
+    ),
+    (
+        DECLARATIONS,
+        "hostsignal f 7\nhostwait f 5\nhostsignal f 3\nvalue f\nend\n",
+        Status::Done,
+        "t 4 value 3\nfence f 3\n",
+    ),
+    // the value that would do came before the wait
+    (
+        DECLARATIONS,
+        "hostsignal f 7\nhostsignal f 3\nhostwait f 5\nend\n",
+        Status::Stalled,
+        "fence f 3\nstalled thread t\n",
+    ),
+];
+
+/// A wait behind two signals of a queue, of which the later one is less.
+const FALLING: &str = "signal q f 7\nsignal q f 3\nhostwait f 5\nvalue f\nend\n";
+
+/// Where the thread goes on first, so many calls, and then only where nothing else can: the status and the output.
+const FALLING_ROWS: [(usize, Status, &str); 2] = [
+    (3, Status::Done, "t 4 value 3\nfence f 3\n"),
+    (2, Status::Stalled, "fence f 3\nstalled thread t\n"),
+];
+
 /// Texts that are refused.
 const REFUSED_ROWS: [Row; 6] = [
     (
@@ -86,6 +118,42 @@ const REFUSED_ROWS: [Row; 6] = [
 fn runs_end_and_print_as_their_rows_say(rt: HostRuntime) -> Result<(), Fail> {
     for (front, back, status, output) in DONE_ROWS {
         let (got, sink) = run_of(rt.alloc(), plain([front, back]))?;
+        assert!(rt; got == status, "the status of {output}");
+        assert!(rt; sink.held() == output.as_bytes(), "not {output}");
+    }
+    Ok(())
+}
+
+#[test]
+fn a_signal_of_the_host_meets_waits_and_lets_the_value_fall(rt: HostRuntime) -> Result<(), Fail> {
+    for (front, back, status, output) in HOST_ROWS {
+        let (got, sink) = run_of(rt.alloc(), plain([front, back]))?;
+        assert!(rt; got == status, "the status of {output}");
+        assert!(rt; sink.held() == output.as_bytes(), "not {output}");
+    }
+    Ok(())
+}
+
+/// The first step so many times, and then the second.
+fn second_behind(calls: usize) -> [u64; 32] {
+    let mut choices = [1; 32];
+    for k in 0..32 {
+        if k < calls {
+            choices[k] = 0;
+        }
+    }
+    choices
+}
+
+#[test]
+fn a_wait_is_met_by_a_value_that_came_since_it_began(rt: HostRuntime) -> Result<(), Fail> {
+    for (calls, status, output) in FALLING_ROWS {
+        let choices = second_behind(calls);
+        let given = Given {
+            choices: &choices,
+            ..plain([DECLARATIONS, FALLING])
+        };
+        let (got, sink) = run_of(rt.alloc(), given)?;
         assert!(rt; got == status, "the status of {output}");
         assert!(rt; sink.held() == output.as_bytes(), "not {output}");
     }

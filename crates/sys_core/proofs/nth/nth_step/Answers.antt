@@ -4,20 +4,20 @@ use Rattle.sys_core.proofs.NthStep as nth
 use Rattle.sys_core.proofs.nth.nth_step.Goals as goal
 
 pub nth_thread-requires-clause-seats : goal.nth_thread-requires-clause-seats
-nth_thread-requires-clause-seats g c = nth.seats_count g.D.VkDevice.state g.D.VkDevice.machine g.D.VkDevice.plan_of c.args.world.now c.args.history.now.items c.args.parts.now c.args.device.now c.requires.keeps
+nth_thread-requires-clause-seats g c = nth.seats_count c.args.world.now c.args.history.now.items c.args.parts.now (g.D.VkDevice.view_of c.args.device.now) c.requires.keeps
 
 pub returns-in-Ok : goal.returns-in-Ok
-returns-in-Ok g c = nth.nth_is_thread g.D.VkDevice.state g.D.VkDevice.machine g.D.VkDevice.plan_of c.args.world.now c.args.history.now.items c.args.parts.now c.args.device.now c.requires.keeps (g.D.VkDevice.offered c.args.device.now) c.args.k c.in-Ok.step c.in-Ok.ensures
+returns-in-Ok g c = nth.nth_is_thread c.args.world.now c.args.history.now.items c.args.parts.now (g.D.VkDevice.view_of c.args.device.now) c.requires.keeps (g.D.VkDevice.view_of c.args.device.now).offered c.args.k c.in-Ok.step c.in-Ok.ensures
 
 pub returns-in-Ok-nth_worker : goal.returns-in-Ok-nth_worker
 returns-in-Ok-nth_worker g c =
-    nth.nth_is_worker g.D.VkDevice.state g.D.VkDevice.machine g.D.VkDevice.plan_of c.args.world.now c.args.history.now.items c.args.parts.now c.args.device.now c.requires.keeps (g.D.VkDevice.offered c.args.device.now) c.args.k c.in-Err.left c.in-Ok-nth_worker.step c.in-Err.ensures c.in-Ok-nth_worker.ensures
+    nth.nth_is_worker c.args.world.now c.args.history.now.items c.args.parts.now (g.D.VkDevice.view_of c.args.device.now) c.requires.keeps (g.D.VkDevice.view_of c.args.device.now).offered c.args.k c.in-Err.left c.in-Ok-nth_worker.step c.in-Err.ensures c.in-Ok-nth_worker.ensures
 
 pub overflow_cast-result : goal.overflow_cast-result
 overflow_cast-result g c =
-    let within = nth.device_within g.D.VkDevice.state g.D.VkDevice.machine g.D.VkDevice.plan_of c.args.world.now c.args.history.now.items c.args.parts.now c.args.device.now c.requires.keeps (g.D.VkDevice.offered c.args.device.now) c.args.k c.in-Err.left c.in-Err-nth_worker.left c.in-Err.ensures c.in-Err-nth_worker.ensures c.requires.within in
+    let within = nth.device_within c.args.world.now c.args.history.now.items c.args.parts.now (g.D.VkDevice.view_of c.args.device.now) c.requires.keeps (g.D.VkDevice.view_of c.args.device.now).offered c.args.k c.in-Err.left c.in-Err-nth_worker.left c.in-Err.ensures c.in-Err-nth_worker.ensures c.requires.within in
     omega (arith, within)
 
 pub returns-in-Err-nth_worker : goal.returns-in-Err-nth_worker
 returns-in-Err-nth_worker g c =
-    nth.nth_is_device g.D.VkDevice.state g.D.VkDevice.machine g.D.VkDevice.plan_of c.args.world.now c.args.history.now.items c.args.parts.now c.args.device.now c.requires.keeps (g.D.VkDevice.offered c.args.device.now) c.args.k c.in-Err.left c.in-Err-nth_worker.left c.in-Err.ensures c.in-Err-nth_worker.ensures c.requires.within
+    nth.nth_is_device c.args.world.now c.args.history.now.items c.args.parts.now (g.D.VkDevice.view_of c.args.device.now) c.requires.keeps (g.D.VkDevice.view_of c.args.device.now).offered c.args.k c.in-Err.left c.in-Err-nth_worker.left c.in-Err.ensures c.in-Err-nth_worker.ensures c.requires.within

@@ -25,94 +25,66 @@ for_some (Some y) x P is h = subst P (let e : x ≡ y = grind arith in e) h
 pub next_batch-requires-clause-next : goal.next_batch-requires-clause-next
 next_batch-requires-clause-next g c =
     let y : Held = c.at_mut-held.result.now in
-    let at : slice_get c.args.parts.now.held c.args.queue.0 ≡ Some y = step.held_at g.D.VkDevice.state g.D.VkDevice.machine g.D.VkDevice.plan_of c.args.world.now c.args.history.now.items c.args.parts.now c.args.device.now c.requires.keeps c.args.queue.0 y c.requires.queue c.at_mut-held.ensures.value in
-    let found : (o : Operation) × step.IsNext c.args.world.now c.args.history.now.items (g.D.VkDevice.state c.args.device.now) c.args.queue.0 y o =
-    step.next_found g.D.VkDevice.state g.D.VkDevice.machine g.D.VkDevice.plan_of c.args.world.now c.args.history.now.items c.args.parts.now c.args.device.now c.requires.keeps c.args.queue.0 y c.requires.queue c.requires.ready at in
+    let found : (o : Operation) × _ = step.next_lent c.args.world.now c.args.history.now.items c.args.parts.now (g.D.VkDevice.view_of c.args.device.now) c.requires.keeps c.args.queue.0 y c.requires.queue c.requires.ready c.at_mut-held.ensures.value in
     some_is (slice_get y.operations.items 0) found.0 found.1.head
 
 pub next_batch-requires-clause-numbered : goal.next_batch-requires-clause-numbered
 next_batch-requires-clause-numbered g c =
     let y : Held = c.at_mut-held.result.now in
-    let at : slice_get c.args.parts.now.held c.args.queue.0 ≡ Some y = step.held_at g.D.VkDevice.state g.D.VkDevice.machine g.D.VkDevice.plan_of c.args.world.now c.args.history.now.items c.args.parts.now c.args.device.now c.requires.keeps c.args.queue.0 y c.requires.queue c.at_mut-held.ensures.value in
-    let found : (o : Operation) × step.IsNext c.args.world.now c.args.history.now.items (g.D.VkDevice.state c.args.device.now) c.args.queue.0 y o =
-    step.next_found g.D.VkDevice.state g.D.VkDevice.machine g.D.VkDevice.plan_of c.args.world.now c.args.history.now.items c.args.parts.now c.args.device.now c.requires.keeps c.args.queue.0 y c.requires.queue c.requires.ready at in
-    for_some (slice_get y.operations.items 0) found.0 (λ o. is_numbered_operation c.args.world.now o ≡ true) found.1.head (step.numbered_next g.D.VkDevice.state g.D.VkDevice.machine g.D.VkDevice.plan_of c.args.world.now c.args.history.now.items c.args.parts.now c.args.device.now c.requires.keeps found.0 found.1.good)
+    let found : (o : Operation) × _ = step.next_lent c.args.world.now c.args.history.now.items c.args.parts.now (g.D.VkDevice.view_of c.args.device.now) c.requires.keeps c.args.queue.0 y c.requires.queue c.requires.ready c.at_mut-held.ensures.value in
+    for_some (slice_get y.operations.items 0) found.0 (λ o. is_numbered_operation c.args.world.now o ≡ true) found.1.head (step.numbered_next c.args.world.now c.args.history.now.items c.args.parts.now (g.D.VkDevice.view_of c.args.device.now) c.requires.keeps found.0 found.1.good)
 
 pub next_batch-requires-clause-number : goal.next_batch-requires-clause-number
 next_batch-requires-clause-number g c =
     let y : Held = c.at_mut-held.result.now in
-    let at : slice_get c.args.parts.now.held c.args.queue.0 ≡ Some y = step.held_at g.D.VkDevice.state g.D.VkDevice.machine g.D.VkDevice.plan_of c.args.world.now c.args.history.now.items c.args.parts.now c.args.device.now c.requires.keeps c.args.queue.0 y c.requires.queue c.at_mut-held.ensures.value in
-    let found : (o : Operation) × step.IsNext c.args.world.now c.args.history.now.items (g.D.VkDevice.state c.args.device.now) c.args.queue.0 y o =
-    step.next_found g.D.VkDevice.state g.D.VkDevice.machine g.D.VkDevice.plan_of c.args.world.now c.args.history.now.items c.args.parts.now c.args.device.now c.requires.keeps c.args.queue.0 y c.requires.queue c.requires.ready at in
+    let found : (o : Operation) × _ = step.next_lent c.args.world.now c.args.history.now.items c.args.parts.now (g.D.VkDevice.view_of c.args.device.now) c.requires.keeps c.args.queue.0 y c.requires.queue c.requires.ready c.at_mut-held.ensures.value in
     omega (arith, found.1.few, c.len-events.ensures, c.len-events.type_inv)
 
 pub submit-requires-clause-number : goal.submit-requires-clause-number
 submit-requires-clause-number g c =
     let y : Held = c.at_mut-held.result.now in
-    let at : slice_get c.args.parts.now.held c.args.queue.0 ≡ Some y = step.held_at g.D.VkDevice.state g.D.VkDevice.machine g.D.VkDevice.plan_of c.args.world.now c.args.history.now.items c.args.parts.now c.args.device.now c.requires.keeps c.args.queue.0 y c.requires.queue c.at_mut-held.ensures.value in
-    let found : (o : Operation) × step.IsNext c.args.world.now c.args.history.now.items (g.D.VkDevice.state c.args.device.now) c.args.queue.0 y o =
-    step.next_found g.D.VkDevice.state g.D.VkDevice.machine g.D.VkDevice.plan_of c.args.world.now c.args.history.now.items c.args.parts.now c.args.device.now c.requires.keeps c.args.queue.0 y c.requires.queue c.requires.ready at in
+    let found : (o : Operation) × _ = step.next_lent c.args.world.now c.args.history.now.items c.args.parts.now (g.D.VkDevice.view_of c.args.device.now) c.requires.keeps c.args.queue.0 y c.requires.queue c.requires.ready c.at_mut-held.ensures.value in
     let batch : c.in_ok-batch.batch ≡ batch_by c.args.world.now c.args.queue.0 (y.submitted + 1) y.last_signal found.0 =
     at_some (slice_get y.operations.items 0) found.0 (λ o. c.in_ok-batch.batch ≡ batch_by c.args.world.now c.args.queue.0 (y.submitted + 1) y.last_signal o) found.1.head c.in_ok-batch.ensures.batch in
-    ap (λ (b : Batch). b.number) batch ∙ step.number_next g.D.VkDevice.state g.D.VkDevice.machine g.D.VkDevice.plan_of c.args.world.now c.args.history.now.items c.args.parts.now c.args.device.now c.requires.keeps c.args.queue.0 y found.0 c.requires.queue found.1
-    ∙ ap (λ (b : Batch). next_number b.queue (g.D.VkDevice.state c.args.device.now).journal) (sym batch)
+    ap (λ (b : Batch). b.number) batch ∙ step.number_next c.args.world.now c.args.history.now.items c.args.parts.now (g.D.VkDevice.view_of c.args.device.now) c.requires.keeps c.args.queue.0 y found.0 c.requires.queue found.1
+    ∙ ap (λ (b : Batch). next_number b.queue (g.D.VkDevice.view_of c.args.device.now).state.journal) (sym batch)
 
 pub submit-requires-clause-fits : goal.submit-requires-clause-fits
 submit-requires-clause-fits g c =
     let y : Held = c.at_mut-held.result.now in
-    let at : slice_get c.args.parts.now.held c.args.queue.0 ≡ Some y = step.held_at g.D.VkDevice.state g.D.VkDevice.machine g.D.VkDevice.plan_of c.args.world.now c.args.history.now.items c.args.parts.now c.args.device.now c.requires.keeps c.args.queue.0 y c.requires.queue c.at_mut-held.ensures.value in
-    let found : (o : Operation) × step.IsNext c.args.world.now c.args.history.now.items (g.D.VkDevice.state c.args.device.now) c.args.queue.0 y o =
-    step.next_found g.D.VkDevice.state g.D.VkDevice.machine g.D.VkDevice.plan_of c.args.world.now c.args.history.now.items c.args.parts.now c.args.device.now c.requires.keeps c.args.queue.0 y c.requires.queue c.requires.ready at in
+    let found : (o : Operation) × _ = step.next_lent c.args.world.now c.args.history.now.items c.args.parts.now (g.D.VkDevice.view_of c.args.device.now) c.requires.keeps c.args.queue.0 y c.requires.queue c.requires.ready c.at_mut-held.ensures.value in
     let batch : c.in_ok-batch.batch ≡ batch_by c.args.world.now c.args.queue.0 (y.submitted + 1) y.last_signal found.0 =
     at_some (slice_get y.operations.items 0) found.0 (λ o. c.in_ok-batch.batch ≡ batch_by c.args.world.now c.args.queue.0 (y.submitted + 1) y.last_signal o) found.1.head c.in_ok-batch.ensures.batch in
-    step.fits_next g.D.VkDevice.state g.D.VkDevice.machine g.D.VkDevice.plan_of c.args.world.now c.args.history.now.items c.args.parts.now c.args.device.now c.requires.keeps c.args.queue.0 y found.0 c.in_ok-batch.batch c.requires.queue found.1 batch
+    step.fits_next c.args.world.now c.args.history.now.items c.args.parts.now (g.D.VkDevice.view_of c.args.device.now) c.requires.keeps c.args.queue.0 y found.0 c.in_ok-batch.batch c.requires.queue found.1 batch
 
 pub count_submitted-requires-clause-next : goal.count_submitted-requires-clause-next
 count_submitted-requires-clause-next g c =
     let y : Held = c.at_mut-held.result.now in
-    let at : slice_get c.args.parts.now.held c.args.queue.0 ≡ Some y = step.held_at g.D.VkDevice.state g.D.VkDevice.machine g.D.VkDevice.plan_of c.args.world.now c.args.history.now.items c.args.parts.now c.args.device.now c.requires.keeps c.args.queue.0 y c.requires.queue c.at_mut-held.ensures.value in
-    let found : (o : Operation) × step.IsNext c.args.world.now c.args.history.now.items (g.D.VkDevice.state c.args.device.now) c.args.queue.0 y o =
-    step.next_found g.D.VkDevice.state g.D.VkDevice.machine g.D.VkDevice.plan_of c.args.world.now c.args.history.now.items c.args.parts.now c.args.device.now c.requires.keeps c.args.queue.0 y c.requires.queue c.requires.ready at in
+    let found : (o : Operation) × _ = step.next_lent c.args.world.now c.args.history.now.items c.args.parts.now (g.D.VkDevice.view_of c.args.device.now) c.requires.keeps c.args.queue.0 y c.requires.queue c.requires.ready c.at_mut-held.ensures.value in
     some_is (slice_get c.next_batch.new.held.operations.items 0) found.0 (ap (λ (x : Queued). slice_get x.operations 0) c.next_batch.ensures.same ∙ found.1.head)
 
 pub count_submitted-requires-clause-number : goal.count_submitted-requires-clause-number
 count_submitted-requires-clause-number g c =
     let y : Held = c.at_mut-held.result.now in
-    let at : slice_get c.args.parts.now.held c.args.queue.0 ≡ Some y = step.held_at g.D.VkDevice.state g.D.VkDevice.machine g.D.VkDevice.plan_of c.args.world.now c.args.history.now.items c.args.parts.now c.args.device.now c.requires.keeps c.args.queue.0 y c.requires.queue c.at_mut-held.ensures.value in
-    let found : (o : Operation) × step.IsNext c.args.world.now c.args.history.now.items (g.D.VkDevice.state c.args.device.now) c.args.queue.0 y o =
-    step.next_found g.D.VkDevice.state g.D.VkDevice.machine g.D.VkDevice.plan_of c.args.world.now c.args.history.now.items c.args.parts.now c.args.device.now c.requires.keeps c.args.queue.0 y c.requires.queue c.requires.ready at in
+    let found : (o : Operation) × _ = step.next_lent c.args.world.now c.args.history.now.items c.args.parts.now (g.D.VkDevice.view_of c.args.device.now) c.requires.keeps c.args.queue.0 y c.requires.queue c.requires.ready c.at_mut-held.ensures.value in
     omega (arith, found.1.few, c.len-events.ensures, c.len-events.type_inv, ap (λ (x : Queued). x.submitted) c.next_batch.ensures.same)
 
 pub returns-clause-keeps : goal.returns-clause-keeps
 returns-clause-keeps g c =
     let y : Held = c.at_mut-held.result.now in
-    let at : slice_get c.args.parts.now.held c.args.queue.0 ≡ Some y = step.held_at g.D.VkDevice.state g.D.VkDevice.machine g.D.VkDevice.plan_of c.args.world.now c.args.history.now.items c.args.parts.now c.args.device.now c.requires.keeps c.args.queue.0 y c.requires.queue c.at_mut-held.ensures.value in
-    let found : (o : Operation) × step.IsNext c.args.world.now c.args.history.now.items (g.D.VkDevice.state c.args.device.now) c.args.queue.0 y o =
-    step.next_found g.D.VkDevice.state g.D.VkDevice.machine g.D.VkDevice.plan_of c.args.world.now c.args.history.now.items c.args.parts.now c.args.device.now c.requires.keeps c.args.queue.0 y c.requires.queue c.requires.ready at in
+    let found : (o : Operation) × _ = step.next_lent c.args.world.now c.args.history.now.items c.args.parts.now (g.D.VkDevice.view_of c.args.device.now) c.requires.keeps c.args.queue.0 y c.requires.queue c.requires.ready c.at_mut-held.ensures.value in
     let batch : c.in_ok-batch.batch ≡ batch_by c.args.world.now c.args.queue.0 (y.submitted + 1) y.last_signal found.0 =
     at_some (slice_get y.operations.items 0) found.0 (λ o. c.in_ok-batch.batch ≡ batch_by c.args.world.now c.args.queue.0 (y.submitted + 1) y.last_signal o) found.1.head c.in_ok-batch.ensures.batch in
     let counted : queued c.count_submitted.new.held ≡ submitted_one found.0 (queued c.next_batch.new.held) =
     at_some (slice_get c.next_batch.new.held.operations.items 0) found.0 (λ o. queued c.count_submitted.new.held ≡ submitted_one o (queued c.next_batch.new.held))
     (ap (λ (x : Queued). slice_get x.operations 0) c.next_batch.ensures.same ∙ found.1.head) c.count_submitted.ensures in
-    step.keeps_next g.D.VkDevice.state g.D.VkDevice.machine g.D.VkDevice.plan_of c.args.world.now c.args.history.now.items c.args.parts.now c.args.device.now c.requires.keeps c.requires.queues c.args.queue.0 y c.count_submitted.new.held found.0 c.in_ok-batch.batch c.submit.new.self c.requires.queue at c.at_mut-held.ensures.value found.1 batch
-    c.in_ok-submit.ensures.state c.in_ok-submit.ensures.machine c.submit.ensures.plan (counted ∙ ap (submitted_one found.0) c.next_batch.ensures.same)
+    step.keeps_next c.args.world.now c.args.history.now.items c.args.parts.now (g.D.VkDevice.view_of c.args.device.now) c.requires.keeps c.requires.queues c.args.queue.0 y c.count_submitted.new.held found.0 c.in_ok-batch.batch (g.D.VkDevice.view_of c.submit.new.self) c.requires.queue c.at_mut-held.ensures.value found.1 batch
+    c.in_ok-submit.ensures.state c.submit.ensures.answered.plan (counted ∙ ap (submitted_one found.0) c.next_batch.ensures.same)
 
 pub returns-clause-state : goal.returns-clause-state
 returns-clause-state g c =
     let y : Held = c.at_mut-held.result.now in
-    let at : slice_get c.args.parts.now.held c.args.queue.0 ≡ Some y = step.held_at g.D.VkDevice.state g.D.VkDevice.machine g.D.VkDevice.plan_of c.args.world.now c.args.history.now.items c.args.parts.now c.args.device.now c.requires.keeps c.args.queue.0 y c.requires.queue c.at_mut-held.ensures.value in
-    let found : (o : Operation) × step.IsNext c.args.world.now c.args.history.now.items (g.D.VkDevice.state c.args.device.now) c.args.queue.0 y o =
-    step.next_found g.D.VkDevice.state g.D.VkDevice.machine g.D.VkDevice.plan_of c.args.world.now c.args.history.now.items c.args.parts.now c.args.device.now c.requires.keeps c.args.queue.0 y c.requires.queue c.requires.ready at in
+    let found : (o : Operation) × _ = step.next_lent c.args.world.now c.args.history.now.items c.args.parts.now (g.D.VkDevice.view_of c.args.device.now) c.requires.keeps c.args.queue.0 y c.requires.queue c.requires.ready c.at_mut-held.ensures.value in
     let batch : c.in_ok-batch.batch ≡ batch_by c.args.world.now c.args.queue.0 (y.submitted + 1) y.last_signal found.0 =
     at_some (slice_get y.operations.items 0) found.0 (λ o. c.in_ok-batch.batch ≡ batch_by c.args.world.now c.args.queue.0 (y.submitted + 1) y.last_signal o) found.1.head c.in_ok-batch.ensures.batch in
-    step.state_next g.D.VkDevice.state g.D.VkDevice.machine g.D.VkDevice.plan_of c.args.world.now c.args.history.now.items c.args.parts.now c.args.device.now c.requires.keeps c.requires.queues c.args.queue.0 y found.0 c.in_ok-batch.batch (g.D.VkDevice.state c.submit.new.self) c.requires.queue found.1 batch c.in_ok-submit.ensures.state
-
-pub returns-clause-machine : goal.returns-clause-machine
-returns-clause-machine g c =
-    let y : Held = c.at_mut-held.result.now in
-    let at : slice_get c.args.parts.now.held c.args.queue.0 ≡ Some y = step.held_at g.D.VkDevice.state g.D.VkDevice.machine g.D.VkDevice.plan_of c.args.world.now c.args.history.now.items c.args.parts.now c.args.device.now c.requires.keeps c.args.queue.0 y c.requires.queue c.at_mut-held.ensures.value in
-    let found : (o : Operation) × step.IsNext c.args.world.now c.args.history.now.items (g.D.VkDevice.state c.args.device.now) c.args.queue.0 y o =
-    step.next_found g.D.VkDevice.state g.D.VkDevice.machine g.D.VkDevice.plan_of c.args.world.now c.args.history.now.items c.args.parts.now c.args.device.now c.requires.keeps c.args.queue.0 y c.requires.queue c.requires.ready at in
-    let batch : c.in_ok-batch.batch ≡ batch_by c.args.world.now c.args.queue.0 (y.submitted + 1) y.last_signal found.0 =
-    at_some (slice_get y.operations.items 0) found.0 (λ o. c.in_ok-batch.batch ≡ batch_by c.args.world.now c.args.queue.0 (y.submitted + 1) y.last_signal o) found.1.head c.in_ok-batch.ensures.batch in
-    step.machine_after g.D.VkDevice.state g.D.VkDevice.machine g.D.VkDevice.plan_of c.args.world.now c.args.history.now.items c.args.parts.now c.args.device.now c.requires.keeps c.requires.queues c.args.queue.0 y found.0 c.in_ok-batch.batch (g.D.VkDevice.machine c.submit.new.self) c.requires.queue found.1 batch c.in_ok-submit.ensures.machine
+    step.state_next c.args.world.now c.args.history.now.items c.args.parts.now (g.D.VkDevice.view_of c.args.device.now) c.requires.keeps c.requires.queues c.args.queue.0 y found.0 c.in_ok-batch.batch (g.D.VkDevice.view_of c.submit.new.self).state c.requires.queue found.1 batch c.in_ok-submit.ensures.state

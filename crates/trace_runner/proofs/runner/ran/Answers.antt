@@ -30,9 +30,9 @@ returns-in-Err-Refused-clause-says g c =
         choices = c.stopped-in-Err-Refused.ensures.choices;
         taken = c.stopped-in-Err-Refused.ensures.taken;
         events = ap (λ o. o.history) c.stopped-in-Err-Refused.ensures.outcome;
-        batches = ap (λ d. (g.D.VkDevice.state d).journal) c.stopped-in-Err-Refused.ensures.device ∙ c.requires.new;
+        batches = ap (λ d. (g.D.VkDevice.view_of d).state.journal) c.stopped-in-Err-Refused.ensures.device ∙ c.requires.new;
       };
-      no_plan = ap g.D.VkDevice.plan_of c.stopped-in-Err-Refused.ensures.device ∙ c.requires.no_plan;
+      no_plan = ap (λ d. (g.D.VkDevice.view_of d).plan) c.stopped-in-Err-Refused.ensures.device ∙ c.requires.no_plan;
     })
     (ap (λ o. o.status) c.stopped-in-Err-Refused.ensures.outcome)
 

@@ -15,7 +15,7 @@ returns-clause-report g c =
       told = g.S.Source.left c.args.source.now;
       source = (g.S.Source.faults c.args.source.now, g.S.Source.faults c.ran-ended.new.source);
     }) (g.K.Sink.faults c.args.sink.now, g.K.Sink.faults c.write_output-status.new.sink) (g.K.Sink.held c.args.sink.now) (g.K.Sink.held c.write_output-status.new.sink) (option_map seen c.ran-ended.result.trace)
-    (left_by c.ran-ended.result.log (g.D.VkDevice.faults c.args.device, g.D.VkDevice.faults c.ran-ended.result.device) (g.D.VkDevice.rest_of c.args.device, g.D.VkDevice.rest_of c.ran-ended.result.device) (g.D.VkDevice.offered c.ran-ended.result.device) (g.D.VkDevice.plan_of c.ran-ended.result.device) (g.D.VkDevice.state c.ran-ended.result.device) (g.D.VkDevice.machine c.ran-ended.result.device) c.ran-ended.result.outcome) c.ran-ended.result.outcome c.write_output-status.result
+    (left_by c.ran-ended.result.log c.ran-ended.result.outcome.history c.ran-ended.result.outcome.fences (g.D.VkDevice.view_of c.args.device) (g.D.VkDevice.view_of c.ran-ended.result.device)) c.ran-ended.result.outcome c.write_output-status.result
     c.ran-ended.ensures.says refl refl c.ran-ended.ensures.shown c.ran-ended.ensures.refused
     (subst (λ t. IsWritten (g.K.Sink.faults c.args.sink.now, g.K.Sink.faults c.write_output-status.new.sink) (g.K.Sink.held c.args.sink.now) (g.K.Sink.held c.write_output-status.new.sink) (option_map seen t) c.ran-ended.result.outcome c.write_output-status.result) c.as_ref.ensures.value c.write_output-status.ensures))
 

@@ -5,7 +5,7 @@ use Rattle.sys_core.proofs.sys.Sys.over.Goals as goal
 
 pub returns-else-self-eq0-clause-system : goal.returns-else-self-eq0-clause-system
 returns-else-self-eq0-clause-system g c =
-    subst (λ v. IsSystem v.world v.history (g.D.VkDevice.state v.device) (g.D.VkDevice.machine v.device)) c.self.view_is
+    subst (λ v. IsSystem v.world v.history v.device.state) c.self.view_is
     (record {
       world = c.self.invariant.keeps.consistent.world;
       queues = c.self.invariant.queues;

@@ -6,10 +6,10 @@ use Rattle.vk_port.proofs.ValidLanes.{lanes_after_step}
 use Rattle.vk_port.proofs.store.Store.bump.Goals as goal
 
 pub count_steps-self-requires-clause-stages : goal.count_steps-self-requires-clause-stages
-count_steps-self-requires-clause-stages c = λ known. rw c.bump-2.ensures (kept_by_bump c.args.queue c.args.self.now.lanes (c.args.self.now.known known))
+count_steps-self-requires-clause-stages c = λ known. rw c.bump-2.ensures (kept_by_bump c.args.queue c.args.self.now.progress.lanes (c.args.self.now.known known))
 
 pub invariant_of-self-clause-known : goal.invariant_of-self-clause-known
-invariant_of-self-clause-known c = λ known. rw c.bump-2.ensures (kept_by_bump c.args.queue c.args.self.now.lanes (c.args.self.now.known known))
+invariant_of-self-clause-known c = λ known. rw c.bump-2.ensures (kept_by_bump c.args.queue c.args.self.now.progress.lanes (c.args.self.now.known known))
 
 pub invariant_of-self-clause-done : goal.invariant_of-self-clause-done
 invariant_of-self-clause-done c = rw c.bump-2.ensures c.bump.ensures.fronts

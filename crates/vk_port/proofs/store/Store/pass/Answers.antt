@@ -9,17 +9,17 @@ use Rattle.vk_port.proofs.store.Store.pass.Goals as goal
 
 pub count_steps-self-requires-clause-fronts : goal.count_steps-self-requires-clause-fronts
 count_steps-self-requires-clause-fronts c =
-    rw c.pass.ensures (fronts_kept lane_after_pass (λ _ _ h. h) c.args.self.now.fronts c.args.self.now.lanes c.args.queue c.args.self.now.done)
+    rw c.pass.ensures (fronts_kept lane_after_pass (λ _ _ h. h) c.args.self.now.fronts c.args.self.now.progress.lanes c.args.queue c.args.self.now.done)
 
 pub count_steps-self-requires-clause-stages : goal.count_steps-self-requires-clause-stages
-count_steps-self-requires-clause-stages c = λ known. rw c.pass.ensures (kept_by_pass c.args.queue c.args.self.now.lanes (c.args.self.now.known known))
+count_steps-self-requires-clause-stages c = λ known. rw c.pass.ensures (kept_by_pass c.args.queue c.args.self.now.progress.lanes (c.args.self.now.known known))
 
 pub invariant_of-self-clause-done : goal.invariant_of-self-clause-done
 invariant_of-self-clause-done c =
-    rw c.pass.ensures (fronts_kept lane_after_pass (λ _ _ h. h) c.args.self.now.fronts c.args.self.now.lanes c.args.queue c.args.self.now.done)
+    rw c.pass.ensures (fronts_kept lane_after_pass (λ _ _ h. h) c.args.self.now.fronts c.args.self.now.progress.lanes c.args.queue c.args.self.now.done)
 
 pub invariant_of-self-clause-known : goal.invariant_of-self-clause-known
-invariant_of-self-clause-known c = λ known. rw c.pass.ensures (kept_by_pass c.args.queue c.args.self.now.lanes (c.args.self.now.known known))
+invariant_of-self-clause-known c = λ known. rw c.pass.ensures (kept_by_pass c.args.queue c.args.self.now.progress.lanes (c.args.self.now.known known))
 
 pub invariant_of-self-clause-valid : goal.invariant_of-self-clause-valid
 invariant_of-self-clause-valid c =

@@ -15,25 +15,25 @@ use Rattle.vk_port.proofs.store.Store.run.Goals as goal
 
 pub advance-requires-clause-queue : goal.advance-requires-clause-queue
 advance-requires-clause-queue c =
-    rw (c.mark.ensures, length_changed (lane_after_run c.args.number c.args.place) c.args.queue c.args.self.now.lanes)
-    (slice_get_within c.args.self.now.lanes c.args.queue c.requires.lane c.requires.there)
+    rw (c.mark.ensures, length_changed (lane_after_run c.args.number c.args.place) c.args.queue c.args.self.now.progress.lanes)
+    (slice_get_within c.args.self.now.progress.lanes c.args.queue c.requires.lane c.requires.there)
 
 pub advance-requires-clause-fronts : goal.advance-requires-clause-fronts
 advance-requires-clause-fronts c =
-    rw c.mark.ensures (fronts_kept (lane_after_run c.args.number c.args.place) (front_after_run c.args.number c.args.place) c.args.self.now.fronts c.args.self.now.lanes c.args.queue c.args.self.now.done)
+    rw c.mark.ensures (fronts_kept (lane_after_run c.args.number c.args.place) (front_after_run c.args.number c.args.place) c.args.self.now.fronts c.args.self.now.progress.lanes c.args.queue c.args.self.now.done)
 
 pub at-requires : goal.at-requires
 at-requires c =
-    rw (c.mark.ensures, length_changed (lane_after_run c.args.number c.args.place) c.args.queue c.args.self.now.lanes)
-    (slice_get_within c.args.self.now.lanes c.args.queue c.requires.lane c.requires.there)
+    rw (c.mark.ensures, length_changed (lane_after_run c.args.number c.args.place) c.args.queue c.args.self.now.progress.lanes)
+    (slice_get_within c.args.self.now.progress.lanes c.args.queue c.requires.lane c.requires.there)
 
 pub count_behind-self-requires-clause-stages : goal.count_behind-self-requires-clause-stages
 count_behind-self-requires-clause-stages c =
-    λ known. rw c.mark.ensures (kept_by_run c.args.queue c.args.number c.args.place c.args.self.now.lanes (c.args.self.now.known known))
+    λ known. rw c.mark.ensures (kept_by_run c.args.queue c.args.number c.args.place c.args.self.now.progress.lanes (c.args.self.now.known known))
 
 pub invariant_of-self-2-clause-known : goal.invariant_of-self-2-clause-known
 invariant_of-self-2-clause-known c =
-    λ known. rw c.mark.ensures (kept_by_run c.args.queue c.args.number c.args.place c.args.self.now.lanes (c.args.self.now.known known))
+    λ known. rw c.mark.ensures (kept_by_run c.args.queue c.args.number c.args.place c.args.self.now.progress.lanes (c.args.self.now.known known))
 
 pub invariant_of-self-2-clause-valid : goal.invariant_of-self-2-clause-valid
 invariant_of-self-2-clause-valid c =
@@ -41,8 +41,8 @@ invariant_of-self-2-clause-valid c =
 
 pub at-front-requires : goal.at-front-requires
 at-front-requires c =
-    rw (c.advance.ensures.each, c.mark.ensures, length_changed (lane_after_run c.args.number c.args.place) c.args.queue c.args.self.now.lanes)
-    (slice_get_within c.args.self.now.lanes c.args.queue c.requires.lane c.requires.there)
+    rw (c.advance.ensures.each, c.mark.ensures, length_changed (lane_after_run c.args.number c.args.place) c.args.queue c.args.self.now.progress.lanes)
+    (slice_get_within c.args.self.now.progress.lanes c.args.queue c.requires.lane c.requires.there)
 
 pub count_behind-self-requires-clause-fewer : goal.count_behind-self-requires-clause-fewer
 count_behind-self-requires-clause-fewer c =
