@@ -4,7 +4,8 @@ pub mod LastChanges
 pub mod Underway
 pub mod Turns
 pub mod ExactChanges
-pub mod Startup
+pub mod FirstLayouts
 pub mod BarrierScopes
 pub mod TableOrder
 pub mod SupportedSides
+pub mod StartupCommands

@@ -15,7 +15,7 @@ use Rattle.barrier_lowering.specs.declared.records.Record.{Record}
 use Rattle.barrier_lowering.specs.declared.records.Record.TheVariants.{Copy, CopyTexture, CopyIn, CopyOut, Barrier}
 use Rattle.barrier_lowering.specs.ImageChanges.{last_given, given_by, AddsSome}
 use Rattle.barrier_lowering.specs.Layouts.{layout_at, change_in, layouts_after_some, layouts_after_command, layouts_after_commands, texture_subs, AreLayoutsOf}
-use Rattle.barrier_lowering.specs.Lowered.{filled_layout, filled_command, change_placed, advanced_by, advanced_by_all, placed_record, IsLowered}
+use Rattle.barrier_lowering.specs.Lowered.{filled_layout, filled_command, change_placed, advanced_by, advanced_by_all, sub_behind, placed_record, IsLowered}
 use Rattle.barrier_lowering.specs.Lowering.{lowered_record, lowered_commands, sub_count, is_there, has_sub, is_small, is_recorded, are_recorded}
 use Rattle.barrier_lowering.specs.Numbers.{buffer_number, image_number}
 use Rattle.barrier_lowering.proofs.LayoutPlaces.{some_at, stay_layouts, is_within}
@@ -38,7 +38,7 @@ has_sub_there rs id sub has =
 -- what the list so far gave each subresource last, or else what it had before the list, is its layout
 abbrev pub Knows : List (Option Resource) → ImageChanges → List (List VkLayout) → List (List VkLayout) → Type 0
 Knows rs changes before now =
-    (image sub : ℕ) → sub < get_or (texture_subs rs) image 0 → filled_layout before image sub (last_given changes image sub) ≡ layout_at now image sub
+    (image sub : ℕ) → sub < get_or (texture_subs rs) image 0 → filled_layout before (sub_behind (last_given changes) image sub) ≡ layout_at now image sub
 
 -- a command with its places filled is the lowered one
 filled_is_lowered : (rs : List (Option Resource)) (changes : ImageChanges) (before now : List (List VkLayout)) (what : Record) → Knows rs changes before now → is_recorded rs what ≡ true →
@@ -47,7 +47,7 @@ filled_is_lowered rs changes before now (Copy to to_offset from from_offset byte
 filled_is_lowered rs changes before now (CopyTexture to to_sub from from_sub) knows recorded =
     let both : (has_sub rs to.0 to_sub ≡ true) × (has_sub rs from.0 from_sub ≡ true) = and_both (has_sub rs to.0 to_sub) (has_sub rs from.0 from_sub) recorded in
     ap
-    (λ l. vk.CopyImage (image_number rs to.0) to_sub l (image_number rs from.0) from_sub (filled_layout before (image_number rs from.0) from_sub (last_given changes (image_number rs from.0) from_sub)))
+    (λ l. vk.CopyImage (image_number rs to.0) to_sub l (image_number rs from.0) from_sub (filled_layout before (sub_behind (last_given changes) (image_number rs from.0) from_sub)))
     (knows (image_number rs to.0) to_sub (has_sub_there rs to.0 to_sub both.0))
     ∙ ap
     (λ l. vk.CopyImage (image_number rs to.0) to_sub (layout_at now (image_number rs to.0) to_sub) (image_number rs from.0) from_sub l)
@@ -85,9 +85,9 @@ stay_after rs (command ∷ commands) layouts are = stay_after rs commands (advan
 -- a list that is filled makes the changes of the list with places
 change_filled : (layouts : List (List VkLayout)) (command : Placed) → change_in (filled_command layouts command) ≡ change_placed command
 change_filled layouts (placed.Whole command) = refl
-change_filled layouts (placed.CopyImage to to_sub to_layout from from_sub from_layout) = refl
-change_filled layouts (placed.CopyIn image sub layout buffer first pitch) = refl
-change_filled layouts (placed.CopyOut buffer first pitch image sub layout) = refl
+change_filled layouts (placed.CopyImage to from) = refl
+change_filled layouts (placed.CopyIn to from) = refl
+change_filled layouts (placed.CopyOut to from) = refl
 
 after_filled : (commands : List Placed) (before layouts : List (List VkLayout)) → layouts_after_commands (map (filled_command before) commands) layouts ≡ advanced_by_all commands layouts
 after_filled [] before layouts = refl

@@ -25,8 +25,9 @@ use Rattle.vk_types.specs.Stages.{meets, only_stage}
 use Rattle.vk_types.specs.Whole.{stands_for_stage, stands_for_access}
 use Rattle.barrier_lowering.specs.declared.records.Record.{Record}
 use Rattle.barrier_lowering.specs.Barriers.{change_between, lowered_barrier}
-use Rattle.barrier_lowering.specs.Layouts.{layouts_after_commands, layouts_after, first_layouts, unknown_layouts, startup_commands, AreLayoutsOf}
+use Rattle.barrier_lowering.specs.Layouts.{layouts_after_commands, layouts_after, first_layouts, unknown_layouts, AreLayoutsOf}
 use Rattle.barrier_lowering.specs.Lowering.{lowered_commands}
+use Rattle.barrier_lowering.specs.Startup.{startup_commands}
 
 -- a command, whatever layouts a copy names
 abbrev pub without_layouts : VkCommand → VkCommand

@@ -1,21 +1,17 @@
 -- The layouts of images: a list for each image, of the layout of each of its subresources.
-use Rattle.std.specs.Prelude.{ℕ, zero, suc, ◌≡◌, ◌+◌, ◌*◌, List, [], ◌∷◌, ◌++◌, length, map, replicate, slice_index_or, Option, Some, None, bit_or}
+use Rattle.std.specs.Prelude.{ℕ, ◌≡◌, ◌*◌, List, [], ◌∷◌, length, map, replicate, slice_index_or, Option, Some, None}
 use Rattle.dx_base.specs.Lists.{changed_at}
 use Rattle.d3d_resources.specs.declared.resources.Resource.{Resource}
 use Rattle.d3d_resources.specs.declared.resources.Resource.TheVariants.{Buffer, Texture}
 use Rattle.d3d_resources.specs.declared.resources.Start.{Start}
 use Rattle.d3d_resources.specs.declared.resources.Start.TheVariants.{Legacy, Enhanced}
 use Rattle.lower_tables.specs.Layouts.{layout_of}
-use Rattle.vk_types.specs.declared.accesses.Access.TheVariants.{MemoryRead, MemoryWrite}
 use Rattle.vk_types.specs.declared.batches.Batch.{Batch}
 use Rattle.vk_types.specs.declared.commands.VkCommand.{VkCommand}
 use Rattle.vk_types.specs.declared.commands.VkCommand.TheVariants.{Barrier, Copy, CopyImage, CopyIn, CopyOut, Clear, Dispatch}
 use Rattle.vk_types.specs.declared.layouts.Change.{Change}
 use Rattle.vk_types.specs.declared.layouts.VkLayout.{VkLayout}
 use Rattle.vk_types.specs.declared.layouts.VkLayout.TheVariants.{Undefined, General}
-use Rattle.vk_types.specs.declared.stages.Stage.TheVariants.{AllCommands}
-use Rattle.vk_types.specs.Accesses.{access_bit}
-use Rattle.vk_types.specs.Stages.{only_stage}
 
 -- the layout of a subresource of an image; one that there is not is in none
 abbrev pub layout_at : List (List VkLayout) → ℕ → ℕ → VkLayout
@@ -76,34 +72,6 @@ unknown_layouts rs = layouts_by (λ _. Undefined) rs
 
 abbrev pub first_layouts : List (Option Resource) → List (List VkLayout)
 first_layouts rs = layouts_by first_layout rs
-
--- the start-up's barrier of one subresource: from UNDEFINED to its first layout, from all commands with no access to all with
--- reads and writes of memory
-abbrev pub startup_barrier : ℕ → ℕ → VkLayout → VkCommand
-startup_barrier image sub layout =
-    Barrier
-    (only_stage AllCommands)
-    (record { 0 = 0 })
-    (only_stage AllCommands)
-    (record { 0 = bit_or (access_bit MemoryRead) (access_bit MemoryWrite) })
-    (Some (record { image = image; sub = Some sub; old = Undefined; new = layout }))
-
--- the start-up's barriers of an image, of so many subresources from one on
-abbrev pub startup_of_image : ℕ → VkLayout → ℕ → ℕ → List VkCommand
-startup_of_image image layout sub zero = []
-startup_of_image image layout sub (suc count) = startup_barrier image sub layout ∷ startup_of_image image layout (sub + 1) count
-
--- the start-up's barriers of the live textures, the first of which has this number: one for each subresource, in order
-abbrev pub startup_from : ℕ → List (Option Resource) → List VkCommand
-startup_from image [] = []
-startup_from image (None ∷ rs) = startup_from image rs
-startup_from image (Some (Buffer home words) ∷ rs) = startup_from image rs
-startup_from image (Some (Texture start width height mips layers shared) ∷ rs) =
-    startup_of_image image (first_layout start) 0 (mips * layers) ++ startup_from (image + 1) rs
-
--- the commands of the start-up batch
-abbrev pub startup_commands : List (Option Resource) → List VkCommand
-startup_commands rs = startup_from 0 rs
 
 -- how many subresources each live texture has, in order of ids
 abbrev pub texture_subs : List (Option Resource) → List ℕ

@@ -7,3 +7,4 @@ pub mod Lowered
 pub mod Laws
 pub mod TableLaws
 pub mod Supported
+pub mod Startup

@@ -66,7 +66,7 @@ impl Layouts {
 }
 
 /// The layout in which an image begins.
-fn first_layout(start: Start) -> VkLayout
+pub(crate) fn first_layout(start: Start) -> VkLayout
     ensures { result ≡ begins_in start }
 {
     match start {

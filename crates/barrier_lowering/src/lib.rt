@@ -8,9 +8,9 @@ mod layouts;
 mod lowered;
 mod lowering;
 mod numbers;
+mod recorded;
 mod records;
-#[cfg(test)]
-mod tests;
+mod startup;
 
 pub use laws::{
     barriers_keep_their_scopes, changes_are_exact, layouts_decide_no_more, layouts_stay_whole,
@@ -20,4 +20,6 @@ pub use layouts::Layouts;
 pub use lowered::Lowered;
 pub use lowering::lower;
 pub use numbers::Numbers;
+pub use recorded::are_recorded;
 pub use records::Record;
+pub use startup::startup_commands;

@@ -2,43 +2,38 @@
 
 ghost use Rattle.std.specs.Prelude.{◌≡◌, map, IfOk};
 ghost use Rattle.barrier_lowering.specs.Layouts.{change_in};
-ghost use Rattle.barrier_lowering.specs.Lowered.{filled_layout as layout_filled, filled_command, filled, change_placed, advanced, advanced_by};
+ghost use Rattle.barrier_lowering.specs.Lowered.{filled_layout, filled_command, filled, change_placed, advanced, advanced_by};
 
 use crate::layouts::Layouts;
 use dx_base::{Memory, Seq};
 use std::alloc::Global;
 use vk_types::{Change, VkCommand, VkLayout};
 
-/// A command of the device. Each layout that it names is given, or is None: the one that the subresource
-/// has before the list.
+/// A subresource of an image that a command copies. Its layout is given, or None: the one that the
+/// subresource has before the list.
+#[derive(Clone, Copy, Debug, PartialEq, Eq)]
+pub(crate) struct PlacedSub {
+    pub(crate) image: u32,
+    pub(crate) sub: u32,
+    pub(crate) layout: Option<VkLayout>,
+}
+
+/// Rows of a buffer that a command copies. Its first word and its pitch are in words.
+#[derive(Clone, Copy, Debug, PartialEq, Eq)]
+pub(crate) struct Rows {
+    pub(crate) buffer: u32,
+    pub(crate) first: u32,
+    pub(crate) pitch: u32,
+}
+
+/// A command of the device, with places for layouts. A copy goes to the first, from the second.
 #[derive(Clone, Copy, Debug, PartialEq, Eq)]
 pub(crate) enum Placed {
     /// A command that names no layout of a subresource.
     Whole(VkCommand),
-    CopyImage {
-        to: u32,
-        to_sub: u32,
-        to_layout: Option<VkLayout>,
-        from: u32,
-        from_sub: u32,
-        from_layout: Option<VkLayout>,
-    },
-    CopyIn {
-        image: u32,
-        sub: u32,
-        layout: Option<VkLayout>,
-        buffer: u32,
-        first: u32,
-        pitch: u32,
-    },
-    CopyOut {
-        buffer: u32,
-        first: u32,
-        pitch: u32,
-        image: u32,
-        sub: u32,
-        layout: Option<VkLayout>,
-    },
+    CopyImage(PlacedSub, PlacedSub),
+    CopyIn(PlacedSub, Rows),
+    CopyOut(Rows, PlacedSub),
 }
 
 /// A list of commands of the device, with a place for each layout that the list does not itself decide.
@@ -76,50 +71,29 @@ impl Placed {
     {
         match *self {
             Placed::Whole(command) => command,
-            Placed::CopyImage {
-                to,
-                to_sub,
-                to_layout,
-                from,
-                from_sub,
-                from_layout,
-            } => VkCommand::CopyImage {
-                to,
-                to_sub,
-                to_layout: filled_layout(layouts, to, to_sub, to_layout),
-                from,
-                from_sub,
-                from_layout: filled_layout(layouts, from, from_sub, from_layout),
+            Placed::CopyImage(to, from) => VkCommand::CopyImage {
+                to: to.image,
+                to_sub: to.sub,
+                to_layout: to.filled(layouts),
+                from: from.image,
+                from_sub: from.sub,
+                from_layout: from.filled(layouts),
             },
-            Placed::CopyIn {
-                image,
-                sub,
-                layout,
-                buffer,
-                first,
-                pitch,
-            } => VkCommand::CopyIn {
-                image,
-                sub,
-                layout: filled_layout(layouts, image, sub, layout),
-                buffer,
-                first,
-                pitch,
+            Placed::CopyIn(to, from) => VkCommand::CopyIn {
+                image: to.image,
+                sub: to.sub,
+                layout: to.filled(layouts),
+                buffer: from.buffer,
+                first: from.first,
+                pitch: from.pitch,
             },
-            Placed::CopyOut {
-                buffer,
-                first,
-                pitch,
-                image,
-                sub,
-                layout,
-            } => VkCommand::CopyOut {
-                buffer,
-                first,
-                pitch,
-                image,
-                sub,
-                layout: filled_layout(layouts, image, sub, layout),
+            Placed::CopyOut(to, from) => VkCommand::CopyOut {
+                buffer: to.buffer,
+                first: to.first,
+                pitch: to.pitch,
+                image: from.image,
+                sub: from.sub,
+                layout: from.filled(layouts),
             },
         }
     }
@@ -130,7 +104,7 @@ impl Placed {
     {
         match *self {
             Placed::Whole(command) => change_made(command),
-            Placed::CopyImage { .. } | Placed::CopyIn { .. } | Placed::CopyOut { .. } => None,
+            Placed::CopyImage(_, _) | Placed::CopyIn(_, _) | Placed::CopyOut(_, _) => None,
         }
     }
 
@@ -144,13 +118,15 @@ impl Placed {
     }
 }
 
-/// A layout that is given, or else that of the subresource before the list.
-fn filled_layout(layouts: &Layouts, image: u32, sub: u32, layout: Option<VkLayout>) -> VkLayout
-    ensures { result ≡ layout_filled layouts.now.images image sub layout }
-{
-    match layout {
-        Some(layout) => layout,
-        None => layouts.at(image, sub),
+impl PlacedSub {
+    /// The layout of the subresource at the command, where the list begins in these layouts.
+    fn filled(self, layouts: &Layouts) -> VkLayout
+        ensures { result ≡ filled_layout layouts.now.images self }
+    {
+        match self.layout {
+            Some(layout) => layout,
+            None => layouts.at(self.image, self.sub),
+        }
     }
 }
 

@@ -4,18 +4,28 @@ ghost use Rattle.std.specs.Prelude.{◌≡◌, ◌++◌, [], ◌∷◌, true, If
 ghost use Rattle.barrier_lowering.specs.Numbers.{AreNumbersOf};
 ghost use Rattle.barrier_lowering.specs.ImageChanges.{last_given, AddsSome};
 ghost use Rattle.barrier_lowering.specs.Layouts.{change_in};
-ghost use Rattle.barrier_lowering.specs.Lowering.{is_recorded, are_recorded};
-ghost use Rattle.barrier_lowering.specs.Lowered.{placed_record as record_placed, advanced_by, IsLowered, change_placed};
+ghost use Rattle.barrier_lowering.specs.Lowering.{is_there, has_sub, is_small, is_recorded, are_recorded};
+ghost use Rattle.barrier_lowering.specs.Lowered.{copied_buffer, placed_record, placed_sub, rows_of, IsLowered, change_placed};
+ghost use Rattle.barrier_lowering.specs.declared.records.Record.TheVariants.{Copy};
 
 use crate::barriers::lowered_barrier;
 use crate::image_changes::ImageChanges;
-use crate::lowered::{Lowered, Placed};
+use crate::lowered::{Lowered, Placed, PlacedSub, Rows};
 use crate::numbers::Numbers;
 use crate::records::Record;
 use d3d_resources::Resource;
-use dx_base::{Memory, Seq};
+use dx_base::{Memory, ResourceId, Seq};
 use std::alloc::Global;
 use vk_types::VkCommand;
+
+/// What stands before a command of a list: the resources and their numbers, and the changes of layouts that
+/// the list has made so far.
+#[derive(Clone, Copy)]
+struct Before<'a> {
+    resources: &'a [Option<Resource>],
+    numbers: &'a Numbers,
+    changes: &'a ImageChanges,
+}
 
 /// A recorded list in Vulkan's words. Of a copy of a subresource it knows the layout where a barrier before
 /// it in the list changed it; each other layout is left open, for `fill`.
@@ -32,7 +42,12 @@ pub fn lower(
     let mut changes = ImageChanges::new(alloc);
     let mut lowered = Seq::new(alloc);
     for command in commands {
-        let placed = placed_record(resources, numbers, &changes, command);
+        let before = Before {
+            resources,
+            numbers,
+            changes: &changes,
+        };
+        let placed = before.placed(command);
         add_change(alloc, &mut changes, &placed)?;
         lowered.push(placed)?;
     }
@@ -49,82 +64,96 @@ fn add_change(alloc: Global, changes: &mut ImageChanges, placed: &Placed) -> Res
     }
 }
 
-/// A recorded command with places for the layouts that are not known, behind these changes of its list.
-fn placed_record(
-    resources: &[Option<Resource>],
-    numbers: &Numbers,
-    changes: &ImageChanges,
-    command: &Record,
-) -> Placed
-    requires numbers { AreNumbersOf resources.now numbers.now }
-    requires recorded { is_recorded resources.now command.now ≡ true }
-    ensures { result ≡ record_placed resources.now (last_given changes.now) command.now }
-{
-    match *command {
-        Record::Copy {
-            to,
-            to_offset,
-            from,
-            from_offset,
-            bytes,
-        } => Placed::Whole(VkCommand::Copy {
-            to: numbers.buffer(resources, to),
-            to_first: (to_offset / 4) as u32,
-            from: numbers.buffer(resources, from),
-            from_first: (from_offset / 4) as u32,
-            words: (bytes / 4) as u32,
-        }),
-        Record::CopyTexture {
-            to,
-            to_sub,
-            from,
-            from_sub,
-        } => {
-            let (to, from) = (numbers.image(resources, to), numbers.image(resources, from));
-            let (to_sub, from_sub) = (to_sub as u32, from_sub as u32);
-            Placed::CopyImage {
+impl Before<'_> {
+    /// A recorded command with places for the layouts that are not known.
+    fn placed(self, command: &Record) -> Placed
+        requires numbers { AreNumbersOf self.resources.now self.numbers.now }
+        requires recorded { is_recorded self.resources.now command.now ≡ true }
+        ensures { result ≡ placed_record self.entry.resources.now (last_given self.entry.changes.now) command.now }
+    {
+        match *command {
+            Record::Copy {
+                to,
+                to_offset,
+                from,
+                from_offset,
+                bytes,
+            } => Placed::Whole(self.copied(to, to_offset, from, from_offset, bytes)),
+            Record::CopyTexture {
                 to,
                 to_sub,
-                to_layout: changes.last(to, to_sub),
                 from,
                 from_sub,
-                from_layout: changes.last(from, from_sub),
+            } => Placed::CopyImage(self.sub(to, to_sub), self.sub(from, from_sub)),
+            Record::CopyIn {
+                to,
+                sub,
+                from,
+                offset,
+                pitch,
+            } => Placed::CopyIn(self.sub(to, sub), self.rows(from, offset, pitch)),
+            Record::CopyOut {
+                to,
+                offset,
+                pitch,
+                from,
+                sub,
+            } => Placed::CopyOut(self.rows(to, offset, pitch), self.sub(from, sub)),
+            Record::Barrier(barrier) => {
+                Placed::Whole(lowered_barrier(self.resources, self.numbers, &barrier))
             }
         }
-        Record::CopyIn {
-            to,
+    }
+
+    /// A copy between buffers in words.
+    fn copied(
+        self,
+        to: ResourceId,
+        to_offset: u64,
+        from: ResourceId,
+        from_offset: u64,
+        bytes: u64,
+    ) -> VkCommand
+        requires numbers { AreNumbersOf self.resources.now self.numbers.now }
+        requires recorded { is_recorded self.resources.now (Copy to to_offset from from_offset bytes) ≡ true }
+        ensures { result ≡ copied_buffer self.entry.resources.now to.0 to_offset from.0 from_offset bytes }
+    {
+        VkCommand::Copy {
+            to: self.numbers.buffer(self.resources, to),
+            to_first: (to_offset / 4) as u32,
+            from: self.numbers.buffer(self.resources, from),
+            from_first: (from_offset / 4) as u32,
+            words: (bytes / 4) as u32,
+        }
+    }
+
+    /// A subresource of a texture.
+    fn sub(self, id: ResourceId, sub: u64) -> PlacedSub
+        requires numbers { AreNumbersOf self.resources.now self.numbers.now }
+        requires there { has_sub self.resources.now id.0 sub ≡ true }
+        ensures { result ≡ placed_sub self.entry.resources.now (last_given self.entry.changes.now) id.0 sub }
+    {
+        let image = self.numbers.image(self.resources, id);
+        let sub = sub as u32;
+        PlacedSub {
+            image,
             sub,
-            from,
-            offset,
-            pitch,
-        } => {
-            let image = numbers.image(resources, to);
-            Placed::CopyIn {
-                image,
-                sub: sub as u32,
-                layout: changes.last(image, sub as u32),
-                buffer: numbers.buffer(resources, from),
-                first: (offset / 4) as u32,
-                pitch: (pitch / 4) as u32,
-            }
+            layout: self.changes.last(image, sub),
         }
-        Record::CopyOut {
-            to,
-            offset,
-            pitch,
-            from,
-            sub,
-        } => {
-            let image = numbers.image(resources, from);
-            Placed::CopyOut {
-                buffer: numbers.buffer(resources, to),
-                first: (offset / 4) as u32,
-                pitch: (pitch / 4) as u32,
-                image,
-                sub: sub as u32,
-                layout: changes.last(image, sub as u32),
-            }
+    }
+
+    /// Rows of a buffer from a byte on, with so many bytes from one to the next.
+    fn rows(self, id: ResourceId, offset: u64, pitch: u64) -> Rows
+        requires numbers { AreNumbersOf self.resources.now self.numbers.now }
+        requires there { is_there self.resources.now id.0 ≡ true }
+        requires offset { is_small offset ≡ true }
+        requires pitch { is_small pitch ≡ true }
+        ensures { result ≡ rows_of self.entry.resources.now id.0 offset pitch }
+    {
+        Rows {
+            buffer: self.numbers.buffer(self.resources, id),
+            first: (offset / 4) as u32,
+            pitch: (pitch / 4) as u32,
         }
-        Record::Barrier(barrier) => Placed::Whole(lowered_barrier(resources, numbers, &barrier)),
     }
 }

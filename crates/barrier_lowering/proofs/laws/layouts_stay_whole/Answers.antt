@@ -1,5 +1,5 @@
 -- It is a lemma.
-use Rattle.barrier_lowering.proofs.Startup.{stay_whole}
+use Rattle.barrier_lowering.proofs.FirstLayouts.{stay_whole}
 use Rattle.barrier_lowering.proofs.laws.layouts_stay_whole.Goals as goal
 
 pub returns : goal.returns

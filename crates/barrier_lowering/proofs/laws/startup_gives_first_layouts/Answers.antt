@@ -1,5 +1,5 @@
 -- It is a lemma.
-use Rattle.barrier_lowering.proofs.Startup.{startup_gives}
+use Rattle.barrier_lowering.proofs.FirstLayouts.{startup_gives}
 use Rattle.barrier_lowering.proofs.laws.startup_gives_first_layouts.Goals as goal
 
 pub returns : goal.returns

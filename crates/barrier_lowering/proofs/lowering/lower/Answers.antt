@@ -13,12 +13,12 @@ loop-command-preserved c =
     c.add_change.new.changes
     c.loop-command.lowered
     c.push.new.self
-    c.placed_record-placed.result
+    c.placed-placed.result
     _
     c.loop-command.invariant
     (drop_more c.args.commands.now c.loop-command.command-index _ c.loop-command-test.true)
     (recorded_at c.args.resources.now c.args.commands.now c.loop-command.command-index _ c.loop-command-test.true c.requires.recorded)
-    c.placed_record-placed.ensures
+    c.placed-placed.ensures
     c.in_ok-add_change.ensures
     c.in_ok-push.ensures.ok
 

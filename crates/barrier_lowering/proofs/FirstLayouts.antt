@@ -8,7 +8,8 @@ use Rattle.vk_types.specs.declared.commands.VkCommand.{VkCommand}
 use Rattle.vk_types.specs.declared.layouts.VkLayout.{VkLayout}
 use Rattle.vk_types.specs.declared.layouts.VkLayout.TheVariants.{Undefined}
 use Rattle.barrier_lowering.specs.Laws.{LayoutsStayWhole, StartupGivesFirstLayouts}
-use Rattle.barrier_lowering.specs.Layouts.{change_in, layouts_after_command, layouts_after_commands, first_layout, first_layouts, unknown_layouts, startup_of_image, startup_from, AreLayoutsOf}
+use Rattle.barrier_lowering.specs.Layouts.{change_in, layouts_after_command, layouts_after_commands, first_layout, first_layouts, unknown_layouts, AreLayoutsOf}
+use Rattle.barrier_lowering.specs.Startup.{startup_of_image, startup_from}
 use Rattle.barrier_lowering.proofs.LayoutPlaces.{stay_layouts}
 use Rattle.barrier_lowering.proofs.Turns.{after_append}
 
