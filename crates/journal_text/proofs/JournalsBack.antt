@@ -21,17 +21,18 @@ use Rattle.vk_types.specs.declared.plan.PlanView.{PlanView}
 use Rattle.vk_types.specs.declared.plan.PlanView.TheVariants as view
 use Rattle.vk_types.specs.declared.steps.VkStep.{VkStep}
 use Rattle.vk_types.specs.declared.steps.VkStep.TheVariants as step
-use Rattle.journal_text.specs.declared.form.LineClass.{LineClass}
-use Rattle.journal_text.specs.declared.form.LineClass.TheVariants as class
+use Rattle.journal_words.specs.declared.form.LineClass.{LineClass}
+use Rattle.journal_words.specs.declared.form.LineClass.TheVariants as class
 use Rattle.journal_text.specs.declared.item.Item.{Item}
 use Rattle.journal_text.specs.declared.item.Item.TheVariants as item
 use Rattle.journal_text.specs.declared.reading.Reading.{Reading}
-use Rattle.journal_text.specs.Forms.{same_class}
+use Rattle.journal_words.specs.Forms.{same_class}
 use Rattle.journal_text.specs.Laws.{IsSound, PrintsBack}
 use Rattle.journal_text.specs.Names.{is_large, is_large_image, is_large_view, is_named, is_named_command, is_named_step, is_named_view}
 use Rattle.journal_text.specs.Printing.{batch_words, buffer_text, buffer_words, command_text, command_words, commands_of, heap_text, heap_words, image_text, image_words, journal_text, plan_text, queues_words, step_text, step_words, view_text, view_words}
 use Rattle.journal_text.specs.Reading.{and_then, no_plan, opening, submitted, taken_of, with_command, with_form, with_item, with_words}
-use Rattle.journal_text.specs.Sound.{is_narrow, is_sound_batch, is_sound_buffer, is_sound_command, is_sound_image, is_sound_pair, is_sound_step, is_sound_view, is_wide, names_all}
+use Rattle.journal_words.specs.SoundWords.{is_narrow, is_sound_pair, is_wide}
+use Rattle.journal_text.specs.Sound.{is_sound_batch, is_sound_buffer, is_sound_command, is_sound_image, is_sound_step, is_sound_view, names_all}
 use Rattle.journal_text.specs.Texts.{is_plain, journal_of, most_bytes, most_in_line, pieces_from, reading_of, sized, with_last, with_line}
 use Rattle.journal_text.proofs.LinesBack.{Reads, barrier_reads, buffer_reads, buffer_view_reads, bump_reads, change_reads, clear_reads, command_reads, copy_image_reads, copy_in_reads, copy_out_reads, copy_reads, dispatch_reads, end_reads, header_reads, heap_reads, host_read_reads, host_write_reads, image_reads, image_view_reads, pass_reads, queues_reads, submit_reads, update_reads, without_commands}
 use Rattle.journal_text.proofs.PlainLines.{AllPlain, batch_plain, buffer_plain, command_plain, heap_plain, image_plain, queues_plain, step_plain, view_plain}

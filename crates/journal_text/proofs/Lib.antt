@@ -1,8 +1,5 @@
-pub mod Colons
 pub mod TextSteps
-pub mod WordPlaces
-pub mod WordsBack
-pub mod SetsBack
+pub mod TakenBytes
 pub mod LinesBack
 pub mod PlainLines
 pub mod JournalsBack

@@ -35,23 +35,25 @@ use Rattle.dx_base.specs.declared.kinds.Home.{Home}
 use Rattle.dx_base.specs.declared.kinds.Home.TheVariants as home
 use Rattle.dx_base.specs.declared.kinds.Routine.{Routine}
 use Rattle.dx_base.specs.declared.kinds.Routine.TheVariants as routine
-use Rattle.journal_text.specs.declared.form.Form.{Form}
-use Rattle.journal_text.specs.declared.form.Form.TheVariants as form
-use Rattle.journal_text.specs.declared.form.LineClass.{LineClass}
-use Rattle.journal_text.specs.declared.form.LineClass.TheVariants as class
+use Rattle.journal_words.specs.declared.form.Form.{Form}
+use Rattle.journal_words.specs.declared.form.Form.TheVariants as form
+use Rattle.journal_words.specs.declared.form.LineClass.{LineClass}
+use Rattle.journal_words.specs.declared.form.LineClass.TheVariants as class
 use Rattle.journal_text.specs.declared.item.Item.{Item}
 use Rattle.journal_text.specs.declared.item.Item.TheVariants as item
-use Rattle.journal_text.specs.Fields.{count_of, pair_of, register_of}
-use Rattle.journal_text.specs.Forms.{class_of, form_of}
+use Rattle.journal_words.specs.Fields.{count_of, pair_of, register_of}
+use Rattle.journal_words.specs.Forms.{class_of, form_of}
 use Rattle.journal_text.specs.Items.{item_of}
-use Rattle.journal_text.specs.LineWords.{Left, all_or_number_of, finished, literal_next, next, pairs_before, place_of_word}
+use Rattle.journal_words.specs.LineWords.{Left, all_or_number_of, finished, literal_next, next, pairs_before, place_of_word}
 use Rattle.journal_text.specs.Names.{is_large_image, is_large_view}
-use Rattle.journal_text.specs.Printing.{batch_words, buffer_words, change_words, command_words, count_word, heap_words, image_words, pair_word, queues_words, register_word, step_words, sub_word, view_words}
-use Rattle.journal_text.specs.Sound.{is_access_set, is_narrow, is_sound_batch, is_sound_buffer, is_sound_change, is_sound_command, is_sound_count, is_sound_image, is_sound_pair, is_sound_register, is_sound_step, is_sound_sub, is_sound_view, is_stage_set, is_wide}
-use Rattle.journal_text.specs.Tables.{access_rows, class_word, classes, home_word, homes, layout_word, layouts, routine_rows, routine_word, stage_rows, viewed}
-use Rattle.journal_text.specs.Words.{cut_at, literal_of, narrow_of, set_of, set_word}
-use Rattle.journal_text.proofs.SetsBack.{accesses_back, stages_back}
-use Rattle.journal_text.proofs.WordsBack.{class_back, count_back, cut_number, home_back, layout_back, narrow_back, narrow_is, pair_back, register_back, routine_back, sub_back}
+use Rattle.journal_text.specs.Printing.{batch_words, buffer_words, change_words, command_words, heap_words, image_words, queues_words, step_words, view_words}
+use Rattle.journal_words.specs.PrintedWords.{count_word, pair_word, register_word, sub_word}
+use Rattle.journal_words.specs.SoundWords.{is_access_set, is_narrow, is_sound_count, is_sound_pair, is_sound_register, is_sound_sub, is_stage_set, is_wide}
+use Rattle.journal_text.specs.Sound.{is_sound_batch, is_sound_buffer, is_sound_change, is_sound_command, is_sound_image, is_sound_step, is_sound_view}
+use Rattle.journal_words.specs.Tables.{access_rows, class_word, classes, home_word, homes, layout_word, layouts, routine_rows, routine_word, stage_rows, viewed}
+use Rattle.journal_words.specs.Words.{cut_at, literal_of, narrow_of, set_of, set_word}
+use Rattle.journal_words.proofs.SetsBack.{accesses_back, stages_back}
+use Rattle.journal_words.proofs.WordsBack.{class_back, count_back, cut_number, home_back, layout_back, narrow_back, narrow_is, pair_back, register_back, routine_back, sub_back}
 
 -- words that are left, with no cause against the line
 abbrev left : List (List ℕ) → Left

@@ -33,11 +33,13 @@ use Rattle.vk_types.specs.declared.registers.Register.TheVariants as register
 use Rattle.vk_types.specs.declared.steps.VkStep.{VkStep}
 use Rattle.vk_types.specs.declared.steps.VkStep.TheVariants as step
 use Rattle.journal_text.specs.Names.{is_large_image, is_large_view}
-use Rattle.journal_text.specs.Printing.{batch_words, buffer_words, change_words, command_words, count_word, heap_words, image_words, pair_word, queues_words, register_word, step_words, sub_word, view_words}
-use Rattle.journal_text.specs.Sound.{is_access_set, is_narrow, is_sound_batch, is_sound_buffer, is_sound_change, is_sound_command, is_sound_count, is_sound_image, is_sound_pair, is_sound_register, is_sound_step, is_sound_sub, is_sound_view, is_stage_set, is_wide}
-use Rattle.journal_text.specs.Tables.{access_rows, class_word, home_word, layout_word, routine_word, stage_rows}
-use Rattle.journal_text.specs.Words.{set_word}
-use Rattle.journal_text.proofs.WordsBack.{decimal_digits, narrow_is}
+use Rattle.journal_text.specs.Printing.{batch_words, buffer_words, change_words, command_words, heap_words, image_words, queues_words, step_words, view_words}
+use Rattle.journal_words.specs.PrintedWords.{count_word, pair_word, register_word, sub_word}
+use Rattle.journal_words.specs.SoundWords.{is_access_set, is_narrow, is_sound_count, is_sound_pair, is_sound_register, is_sound_sub, is_stage_set, is_wide}
+use Rattle.journal_text.specs.Sound.{is_sound_batch, is_sound_buffer, is_sound_change, is_sound_command, is_sound_image, is_sound_step, is_sound_view}
+use Rattle.journal_words.specs.Tables.{access_rows, class_word, home_word, layout_word, routine_word, stage_rows}
+use Rattle.journal_words.specs.Words.{set_word}
+use Rattle.journal_words.proofs.WordsBack.{decimal_digits, narrow_is}
 
 -- all words are plain
 abbrev pub AllPlain : List (List ℕ) → Type 0

@@ -10,13 +10,13 @@ use Rattle.vk_types.specs.declared.plan.PlanView.TheVariants as view
 use Rattle.vk_types.specs.declared.steps.VkStep.{VkStep}
 use Rattle.vk_types.specs.declared.steps.VkStep.TheVariants as step
 use Rattle.dx_base.specs.declared.kinds.Class.{Class}
-use Rattle.journal_text.specs.declared.form.Form.{Form}
-use Rattle.journal_text.specs.declared.form.Form.TheVariants as form
+use Rattle.journal_words.specs.declared.form.Form.{Form}
+use Rattle.journal_words.specs.declared.form.Form.TheVariants as form
 use Rattle.journal_text.specs.declared.item.Item.{Item}
 use Rattle.journal_text.specs.declared.item.Item.TheVariants as item
-use Rattle.journal_text.specs.Fields.{pair_of}
-use Rattle.journal_text.specs.LineWords.{Left, accesses_next, all_next, all_or_next, class_next, count_next, data_next, finished, home_next, layout_next, literal_next, number_next, pairs_before, register_next, routine_next, stages_next, viewed_next, wide_next}
-use Rattle.journal_text.specs.Words.{narrow_of}
+use Rattle.journal_words.specs.Fields.{pair_of}
+use Rattle.journal_words.specs.LineWords.{Left, accesses_next, all_next, all_or_next, class_next, count_next, data_next, finished, home_next, layout_next, literal_next, number_next, pairs_before, register_next, routine_next, stages_next, viewed_next, wide_next}
+use Rattle.journal_words.specs.Words.{narrow_of}
 
 -- commands: `barrier STAGES ACCESSES STAGES ACCESSES`, with `I SUB OLD NEW` behind it where it changes a layout
 abbrev pub change_next : Left → Change × Left

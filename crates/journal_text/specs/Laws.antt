@@ -1,12 +1,13 @@
 -- Laws of the text of a journal.
-use Rattle.std.specs.Prelude.{ℕ, ◌≡◌, ◌≤◌, ◌&&◌, true, List, length, Ok}
+use Rattle.std.specs.Prelude.{ℕ, ◌≡◌, ◌≤◌, ◌&&◌, true, List, length, take, Ok}
 use Rattle.std.specs.List.{All, list_all}
 use Rattle.trace_words.specs.Lines.{pieces_of}
 use Rattle.vk_types.specs.declared.plan.DevicePlan.{DevicePlan}
 use Rattle.vk_types.specs.declared.steps.VkStep.{VkStep}
 use Rattle.journal_text.specs.Names.{is_named_view}
 use Rattle.journal_text.specs.Printing.{journal_text}
-use Rattle.journal_text.specs.Sound.{is_narrow, is_sound_buffer, is_sound_image, is_sound_step, is_sound_view, names_all}
+use Rattle.journal_words.specs.SoundWords.{is_narrow}
+use Rattle.journal_text.specs.Sound.{is_sound_buffer, is_sound_image, is_sound_step, is_sound_view, names_all}
 use Rattle.journal_text.specs.Texts.{journal_of, most_bytes, most_in_line}
 
 -- each number is one of its field, and each object that a view or a step names is there
@@ -28,3 +29,7 @@ pub record IsShort (text : List ℕ) : Type 0 where
 -- the text of a journal is read as that journal
 abbrev pub PrintsBack : Type 0
 PrintsBack = (plan : DevicePlan) (steps : List VkStep) → IsSound plan steps → IsShort (journal_text plan steps) → journal_of (journal_text plan steps) ≡ Ok (plan, steps)
+
+-- what the first bytes of a text say, up to the first past the limit, is what the whole text says, its bad line and cause included
+abbrev pub FirstBytesCount : Type 0
+FirstBytesCount = (all : List ℕ) → journal_of (take 268435457 all) ≡ journal_of all

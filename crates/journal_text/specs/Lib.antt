@@ -1,8 +1,3 @@
-pub mod Words
-pub mod Tables
-pub mod Fields
-pub mod LineWords
-pub mod Forms
 pub mod Items
 pub mod Names
 pub mod Reading

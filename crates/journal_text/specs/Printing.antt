@@ -2,7 +2,6 @@
 use Rattle.std.specs.Prelude.{ℕ, List, [], ◌∷◌, ◌++◌, map, length, codes, decimal, Option, Some, None}
 use Rattle.std.specs.List.{flat_map}
 use Rattle.line_forms.specs.Lines.{hex_word, line_text}
-use Rattle.line_forms.specs.Reading.{all_text}
 use Rattle.vk_types.specs.declared.batches.Batch.{Batch}
 use Rattle.vk_types.specs.declared.commands.VkCommand.{VkCommand}
 use Rattle.vk_types.specs.declared.commands.VkCommand.TheVariants as command
@@ -12,35 +11,11 @@ use Rattle.vk_types.specs.declared.plan.PlanBuffer.{PlanBuffer}
 use Rattle.vk_types.specs.declared.plan.PlanImage.{PlanImage}
 use Rattle.vk_types.specs.declared.plan.PlanView.{PlanView}
 use Rattle.vk_types.specs.declared.plan.PlanView.TheVariants as view
-use Rattle.vk_types.specs.declared.registers.Count.{Count}
-use Rattle.vk_types.specs.declared.registers.Count.TheVariants as count
-use Rattle.vk_types.specs.declared.registers.Register.{Register}
-use Rattle.vk_types.specs.declared.registers.Register.TheVariants as register
 use Rattle.vk_types.specs.declared.steps.VkStep.{VkStep}
 use Rattle.vk_types.specs.declared.steps.VkStep.TheVariants as step
-use Rattle.journal_text.specs.Tables.{access_rows, class_word, home_word, layout_word, routine_word, stage_rows}
-use Rattle.journal_text.specs.Words.{no_names, set_word}
-
--- `M:N`
-abbrev pub pair_word : ℕ × ℕ → List ℕ
-pair_word p = decimal p.0 ++ 58 ∷ decimal p.1
-
--- a register and a count
-abbrev pub register_word : Register → List ℕ
-register_word register.Unbound = no_names
-register_word (register.Constant word) = codes "c:" ++ hex_word word
-register_word (register.Root buffer first) = codes "b:" ++ pair_word (buffer, first)
-register_word (register.Fixed view) = codes "v:" ++ decimal view
-register_word (register.Slot heap slot) = codes "s:" ++ pair_word (heap, slot)
-
-abbrev pub count_word : Count → List ℕ
-count_word (count.Number n) = decimal n
-count_word (count.Word buffer word most) = codes "b:" ++ (decimal buffer ++ 58 ∷ pair_word (word, most))
-
--- a subresource, or all
-abbrev pub sub_word : Option ℕ → List ℕ
-sub_word None = all_text
-sub_word (Some sub) = decimal sub
+use Rattle.journal_words.specs.PrintedWords.{count_word, pair_word, register_word, sub_word}
+use Rattle.journal_words.specs.Tables.{access_rows, class_word, home_word, layout_word, routine_word, stage_rows}
+use Rattle.journal_words.specs.Words.{set_word}
 
 -- a change of layout, where there is one
 abbrev pub change_words : Option Change → List (List ℕ)

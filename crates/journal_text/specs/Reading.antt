@@ -6,13 +6,13 @@ use Rattle.vk_types.specs.declared.batches.Batch.{Batch}
 use Rattle.vk_types.specs.declared.commands.VkCommand.{VkCommand}
 use Rattle.vk_types.specs.declared.plan.DevicePlan.{DevicePlan}
 use Rattle.vk_types.specs.declared.steps.VkStep.TheVariants as step
-use Rattle.journal_text.specs.declared.form.Form.{Form}
-use Rattle.journal_text.specs.declared.form.LineClass.TheVariants as class
+use Rattle.journal_words.specs.declared.form.Form.{Form}
+use Rattle.journal_words.specs.declared.form.LineClass.TheVariants as class
 use Rattle.journal_text.specs.declared.item.Item.{Item}
 use Rattle.journal_text.specs.declared.item.Item.TheVariants as item
 use Rattle.journal_text.specs.declared.reading.OpenBatch.{OpenBatch}
 use Rattle.journal_text.specs.declared.reading.Reading.{Reading}
-use Rattle.journal_text.specs.Forms.{class_of, form_of, same_class}
+use Rattle.journal_words.specs.Forms.{class_of, form_of, same_class}
 use Rattle.journal_text.specs.Items.{item_of}
 use Rattle.journal_text.specs.Names.{is_large, is_named}
 

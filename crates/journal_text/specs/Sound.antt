@@ -10,45 +10,13 @@ use Rattle.vk_types.specs.declared.plan.PlanBuffer.{PlanBuffer}
 use Rattle.vk_types.specs.declared.plan.PlanImage.{PlanImage}
 use Rattle.vk_types.specs.declared.plan.PlanView.{PlanView}
 use Rattle.vk_types.specs.declared.plan.PlanView.TheVariants as view
-use Rattle.vk_types.specs.declared.registers.Count.{Count}
-use Rattle.vk_types.specs.declared.registers.Count.TheVariants as count
-use Rattle.vk_types.specs.declared.registers.Register.{Register}
-use Rattle.vk_types.specs.declared.registers.Register.TheVariants as register
 use Rattle.vk_types.specs.declared.steps.VkStep.{VkStep}
 use Rattle.vk_types.specs.declared.steps.VkStep.TheVariants as step
+use Rattle.journal_words.specs.SoundWords.{is_access_set, is_narrow, is_sound_count, is_sound_pair, is_sound_register, is_sound_sub, is_stage_set, is_wide}
 use Rattle.journal_text.specs.Names.{is_large_image, is_large_view, is_named_command, is_named_step}
 use Rattle.journal_text.specs.Printing.{commands_of}
 
--- a number of 32 bits, and of 64
-abbrev pub is_narrow : ℕ → Bool
-is_narrow n = nat_lt n (2 ^ 32)
-
-abbrev pub is_wide : ℕ → Bool
-is_wide n = nat_lt n (2 ^ 64)
-
--- a set of names of stages, and of accesses
-abbrev pub is_stage_set : ℕ → Bool
-is_stage_set s = nat_lt s 16
-
-abbrev pub is_access_set : ℕ → Bool
-is_access_set s = nat_lt s 512
-
--- the numbers of a register and of a count
-abbrev pub is_sound_register : Register → Bool
-is_sound_register register.Unbound = true
-is_sound_register (register.Constant word) = is_narrow word
-is_sound_register (register.Root buffer first) = is_narrow buffer && is_narrow first
-is_sound_register (register.Fixed view) = is_narrow view
-is_sound_register (register.Slot heap slot) = is_narrow heap && is_narrow slot
-
-abbrev pub is_sound_count : Count → Bool
-is_sound_count (count.Number n) = is_narrow n
-is_sound_count (count.Word buffer word most) = is_narrow buffer && (is_narrow word && is_narrow most)
-
-abbrev pub is_sound_sub : Option ℕ → Bool
-is_sound_sub None = true
-is_sound_sub (Some sub) = is_narrow sub
-
+-- the numbers of a change of layout
 abbrev pub is_sound_change : Option Change → Bool
 is_sound_change None = true
 is_sound_change (Some c) = is_narrow c.image && is_sound_sub c.sub
@@ -68,10 +36,6 @@ is_sound_command (command.CopyOut buffer first pitch image sub layout) =
 is_sound_command (command.Clear target word) = is_sound_register target && is_narrow word
 is_sound_command (command.Dispatch routine count t0 t1 u0 b0) =
     is_sound_count count && (is_sound_register t0 && (is_sound_register t1 && (is_sound_register u0 && is_sound_register b0)))
-
--- pairs of a timeline and a value
-abbrev pub is_sound_pair : ℕ × ℕ → Bool
-is_sound_pair p = is_narrow p.0 && is_wide p.1
 
 -- the numbers of a step
 abbrev pub is_sound_batch : Batch → Bool

@@ -3,14 +3,16 @@
 ghost use Rattle.std.specs.Prelude.{◌≡◌, ◌∷◌, ◌++◌, decimal, IfOk, OnOk};
 ghost use Rattle.std.specs.List.{flat_map};
 ghost use Rattle.line_forms.specs.Lines.{line_text, rest_of_line};
-ghost use Rattle.journal_text.specs.Printing.{batch_words, buffer_text, change_words, command_text, commands_of, heap_text, image_text, journal_text, plan_text, queues_words, register_word, step_text, step_words, view_text};
-ghost use Rattle.journal_text.specs.Tables.{access_rows, layout_word as word_of_layout, stage_rows};
-ghost use Rattle.journal_text.specs.Words.{set_word};
+ghost use Rattle.journal_text.specs.Printing.{batch_words, buffer_text, change_words, command_text, commands_of, heap_text, image_text, journal_text, plan_text, queues_words, step_text, step_words, view_text};
+ghost use Rattle.journal_words.specs.PrintedWords.{register_word};
+ghost use Rattle.journal_words.specs.Tables.{access_rows, layout_word as word_of_layout, stage_rows};
+ghost use Rattle.journal_words.specs.Words.{set_word};
 
-use crate::printed_words::{end_with_both, end_with_numbers, put_count, put_register, put_sub};
-use crate::sets::{put_accesses, put_stages};
-use crate::tables::{class_word, home_word, layout_word, routine_word};
 use dx_base::Memory;
+use journal_words::{
+    class_word, end_with_both, end_with_numbers, home_word, layout_word, put_accesses, put_count,
+    put_register, put_stages, put_sub, routine_word,
+};
 use line_forms::{end_line, end_with_words, put, put_hex, put_next, put_number};
 use std::alloc::Global;
 use vk_types::{

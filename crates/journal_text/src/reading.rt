@@ -5,11 +5,11 @@ ghost use Rattle.journal_text.specs.Reading.{and_then, commanded, opening, submi
 ghost use Rattle.journal_text.specs.Texts.{Leaves};
 
 use crate::fault::LineFault;
-use crate::form::{Form, LineClass, form_of};
 use crate::item::Item;
 use crate::names::{is_large, is_named};
-use crate::step_lines::item_of;
+use crate::step_lines::read_form;
 use dx_base::{Memory, Seq};
+use journal_words::{Form, LineClass, form_of};
 use line_forms::Cause;
 use std::alloc::Global;
 use vk_types::{Batch, DevicePlan, VkCommand, VkStep};
@@ -144,7 +144,7 @@ impl Reading {
         if !form.class().is_same(self.due) {
             return Err(LineFault::Refused(Cause::Form));
         }
-        let said = item_of(alloc, form, behind_first(words))?;
+        let said = read_form(alloc, form, behind_first(words))?;
         self.take_said(said)
     }
 

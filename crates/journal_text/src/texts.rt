@@ -14,7 +14,7 @@ use trace_words::{cut, words_of_line};
 use vk_types::{DevicePlan, VkStep};
 
 /// The most bytes of a journal.
-const JOURNAL_BYTES: usize = 268_435_456;
+pub const JOURNAL_BYTES: usize = 268_435_456;
 
 /// The most bytes of a line, without its line feed.
 const JOURNAL_LINE_BYTES: usize = 16_777_216;

@@ -3,8 +3,6 @@
 
 mod checking;
 mod laws;
-#[cfg(test)]
-mod tests;
 
 pub use checking::{StepCheck, check_steps};
 pub use laws::first_faults_are_told;

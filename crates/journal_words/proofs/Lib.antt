@@ -1,0 +1,4 @@
+pub mod Colons
+pub mod WordPlaces
+pub mod WordsBack
+pub mod SetsBack
