@@ -4,8 +4,6 @@
 mod choice;
 mod list_chooser;
 mod pcg_chooser;
-#[cfg(test)]
-mod tests;
 
 pub use choice::Chooser;
 pub use list_chooser::ListChooser;

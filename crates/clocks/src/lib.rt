@@ -4,7 +4,5 @@
 mod clock;
 pub mod laws;
 mod numbers;
-#[cfg(test)]
-mod tests;
 
 pub use clock::Clock;

@@ -10,8 +10,6 @@ mod listed;
 mod lists;
 mod machine;
 mod naming;
-#[cfg(test)]
-mod tests;
 mod thread_places;
 mod words;
 mod world;

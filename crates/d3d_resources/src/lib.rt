@@ -7,8 +7,6 @@ mod footprints;
 mod mips;
 mod placements;
 mod resources;
-#[cfg(test)]
-mod tests;
 mod textures;
 mod views;
 

@@ -8,8 +8,6 @@ mod laws;
 mod layouts;
 mod states;
 mod syncs;
-#[cfg(test)]
-mod tests;
 
 pub use accesses::{Access, kinds};
 pub use atoms::{Kind, Part};

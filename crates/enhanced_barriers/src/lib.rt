@@ -5,8 +5,6 @@ mod barriers;
 mod cover;
 mod laws;
 mod legality;
-#[cfg(test)]
-mod tests;
 
 pub use barriers::{Barrier, Scope};
 pub use cover::covers;

@@ -9,4 +9,3 @@ pub mod KeptFence
 pub mod FenceCalls
 pub mod FenceLaws
 pub mod PendingCalls
-pub mod TestLemmas

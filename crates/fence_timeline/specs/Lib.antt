@@ -5,4 +5,3 @@ pub mod FenceList
 pub mod Endings
 pub mod Fence
 pub mod Laws
-pub mod Tests

@@ -5,8 +5,6 @@ mod fence;
 mod laws;
 mod pending;
 mod runs;
-#[cfg(test)]
-mod tests;
 mod update;
 mod updates;
 mod wait;

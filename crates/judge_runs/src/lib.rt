@@ -6,6 +6,10 @@ mod dice;
 mod events;
 mod happenings;
 mod known;
+#[cfg(test)]
+mod list_rows;
+#[cfg(test)]
+mod machine_rows;
 mod player;
 mod rules;
 mod scopes;

@@ -6,8 +6,6 @@ mod currents;
 mod laws;
 mod promotion;
 mod scope_ends;
-#[cfg(test)]
-mod tests;
 mod transitions;
 
 pub use currents::{Current, Kind};

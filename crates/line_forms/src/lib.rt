@@ -7,8 +7,6 @@ mod choice;
 mod form;
 mod kind;
 mod laws;
-#[cfg(test)]
-mod line_rows;
 mod naming;
 mod part;
 mod printing;

@@ -5,8 +5,6 @@ mod laws;
 mod lowering;
 mod names;
 mod rows;
-#[cfg(test)]
-mod tests;
 mod unions;
 
 pub use laws::{

@@ -11,8 +11,6 @@ mod places;
 mod ranges;
 mod refusals;
 mod signatures;
-#[cfg(test)]
-mod tests;
 mod twice;
 mod versions;
 

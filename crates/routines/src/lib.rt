@@ -9,8 +9,6 @@ mod memory;
 mod numbers;
 mod puts;
 mod stores;
-#[cfg(test)]
-mod tests;
 mod touches;
 mod uses;
 

@@ -7,13 +7,12 @@ mod left;
 mod names;
 mod outcome;
 mod status;
-#[cfg(test)]
-mod tests;
 mod text;
 
 pub use history::print_history;
 pub use laws::stalled_lines_tell_the_state;
+pub use names::{Ending, Names};
 pub use outcome::{Outcome, output, refused_of};
 pub use status::{Report, Status};
-pub use text::plain_line;
+pub use text::{plain_line, put_output};
 pub use verdicts::{Rule, Verdict};

@@ -9,8 +9,6 @@ mod no_sink;
 mod outside;
 mod std_sink;
 mod std_source;
-#[cfg(test)]
-mod tests;
 
 pub use all::{ReadAll, read_all, write_all};
 pub use bytes_sink::BytesSink;

@@ -9,8 +9,6 @@ mod printer;
 mod read;
 mod reading;
 mod scripts;
-#[cfg(test)]
-mod tests;
 mod texts;
 mod trace;
 mod trace_fault;

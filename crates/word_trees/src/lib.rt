@@ -3,7 +3,5 @@
 
 mod nodes;
 mod table;
-#[cfg(test)]
-mod tests;
 
 pub use table::Table;

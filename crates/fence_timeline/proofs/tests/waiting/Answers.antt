@@ -1,6 +1,0 @@
-use Rattle.std.proofs.Common.{refl}
-use Rattle.fence_timeline.proofs.TestLemmas.{waited_new}
-use Rattle.fence_timeline.proofs.tests.waiting.Goals as goal
-
-pub returns : goal.returns
-returns c = waited_new _ _ _ _ _ _ c.in_ok-fence.ensures.new c.in_ok-wait.ensures.state c.arm.ensures.list

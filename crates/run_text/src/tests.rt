@@ -1,4 +1,0 @@
-//! Worked rows: the output of runs, with each status and of several threads.
-
-mod outputs;
-mod statuses;
